@@ -1,0 +1,128 @@
+-- A round's figures: each is the best of its candidates, in the order in which `best` chooses; upper and lower are one law.
+-- Assumes nothing.
+use Prim.Native.Nat.{ℕ, zero, suc, _+_, _-_, _≤_, _<_}
+use mathlib.Core.Path.{_≡_, refl, sym, ap, _∙_, subst, subst₂}
+use native.Mathlib.Omega.{arith}
+use mathlib.Core.List.{List}
+use lib.ListN.{length, getD}
+use Rattle.laws.specs.Ranges.{fold, table}
+use Rattle.laws.proofs.Best.{IsBest, fold-first, fold-each, fold-both}
+use Rattle.laws.proofs.Table.{length-table, getD-table, table-self, table-same}
+use Rattle.curves.specs.Pairs.{Curves, horizon, figure, Same, Pair, ceiling, least}
+use Rattle.curves.specs.Rounds.{Arithmetic, cutOff, newFigure, round, given, after, upperAt, lowerAt, Crossed}
+
+pub figure-table : {N : Type 0} (z : N) (f : ℕ → N) (n d : ℕ) → 1 ≤ d → d ≤ n → figure z (table f n) d ≡ f d
+unfolding figure
+figure-table z f n zero p q = absurd (omega arith)
+figure-table z f n (suc d) p q = getD-table f n d z q
+
+-- The entry of a list at a window's place.
+pub figure-entry : {N : Type 0} (z : N) (us : List N) (d : ℕ) → 1 ≤ d → getD us (d - 1) z ≡ figure z us d
+unfolding figure
+figure-entry z us zero p = absurd (omega arith)
+figure-entry z us (suc d) p = let e : suc d - 1 ≡ d = omega arith in rw e
+
+pub given-self : (p : Pair) → length (p .lower) ≡ length (p .upper) → given cutOff p ≡ p
+unfolding given figure
+given-self p e = λ i. record { upper = table-self (ceiling p) (p .upper) 0 (λ k l. refl) i; lower = lowers i }
+  where
+    lowers : table (λ d. least p d) (horizon p) ≡ p .lower
+    lowers = rw (sym e) (table-self (least p) (p .lower) 0 (λ k l. refl))
+
+-- Equality of curves is an equivalence.
+module _ {N : Type 0} (z : N) where
+  pub same-sym : (c e : Curves N) → Same z c e → Same z e c
+  same-sym c e q =
+      record
+        { horizons = sym (q .horizons)
+        ; uppers = λ d u v. sym (q .uppers d u (rw (q .horizons) v))
+        ; lowers = λ d u v. sym (q .lowers d u (rw (q .horizons) v))
+        }
+
+  pub same-trans : (c e f : Curves N) → Same z c e → Same z e f → Same z c f
+  same-trans c e f q r =
+      record
+        { horizons = q .horizons ∙ r .horizons
+        ; uppers = λ d u v. q .uppers d u v ∙ r .uppers d u (rw (sym (q .horizons)) v)
+        ; lowers = λ d u v. q .lowers d u v ∙ r .lowers d u (rw (sym (q .horizons)) v)
+        }
+
+module _ (A : Arithmetic) where
+  pub round-horizon : (c : Curves (A .Number)) → horizon (round A c) ≡ horizon c
+  unfolding round
+  round-horizon c = length-table _ (horizon c)
+
+  pub given-horizon : (p : Pair) → horizon (given A p) ≡ horizon p
+  unfolding given
+  given-horizon p = length-table _ (horizon p)
+
+  pub after-horizon : (n : ℕ) (p : Pair) → horizon (after A n p) ≡ horizon p
+  unfolding after
+  after-horizon zero p = given-horizon p
+  after-horizon (suc n) p = round-horizon (after A n p) ∙ after-horizon n p
+
+  pub given-upper : (p : Pair) (d : ℕ) → 1 ≤ d → d ≤ horizon p → upperAt A (given A p) d ≡ A .of (ceiling p d)
+  unfolding given
+  given-upper p d u v = figure-table (A .of 0) (λ k. A .of (ceiling p k)) (horizon p) d u v
+
+  pub given-lower : (p : Pair) (d : ℕ) → 1 ≤ d → d ≤ horizon p → lowerAt A (given A p) d ≡ A .of (least p d)
+  unfolding given
+  given-lower p d u v = figure-table (A .of 0) (λ k. A .of (least p k)) (horizon p) d u v
+
+  -- Equal pairs have equal figures of any kind.
+  pub given-same : (c e : Pair) → Same 0 c e → given A c ≡ given A e
+  unfolding given
+  given-same c e q =
+      λ i.
+        record
+          { upper = table-same _ _ (horizon c) (horizon e) (q .horizons) (λ d u v. ap (A .of) (q .uppers d u v)) i
+          ; lower = table-same _ _ (horizon c) (horizon e) (q .horizons) (λ d u v. ap (A .of) (q .lowers d u v)) i
+          }
+
+  pub same-crossed : (c e : Curves (A .Number)) → Same (A .of 0) c e → Crossed A c → Crossed A e
+  same-crossed c e q x =
+      record
+        { window = x .window
+        ; positive = x .positive
+        ; within = rw (sym (q .horizons)) (x .within)
+        ; above = subst₂ (A .Below) (q .uppers (x .window) (x .positive) (x .within)) (q .lowers (x .window) (x .positive) (x .within)) (x .above)
+        }
+
+  pub round-upper : (c : Curves (A .Number)) (d : ℕ) → 1 ≤ d → d ≤ horizon c → upperAt A (round A c) d ≡ newFigure A (A .smaller) (horizon c) (upperAt A c) (lowerAt A c) d
+  unfolding round
+  round-upper c d u v = figure-table (A .of 0) (newFigure A (A .smaller) (horizon c) (upperAt A c) (lowerAt A c)) (horizon c) d u v
+
+  pub round-lower : (c : Curves (A .Number)) (d : ℕ) → 1 ≤ d → d ≤ horizon c → lowerAt A (round A c) d ≡ newFigure A (A .larger) (horizon c) (lowerAt A c) (upperAt A c) d
+  unfolding round
+  round-lower c d u v = figure-table (A .of 0) (newFigure A (A .larger) (horizon c) (lowerAt A c) (upperAt A c)) (horizon c) d u v
+
+  module _ (R : A .Number → A .Number → Type 0) (best : A .Number → A .Number → A .Number) (B : IsBest R best)
+      (H : ℕ) (own other : ℕ → A .Number) (d : ℕ) where
+    sums : A .Number
+    sums = fold best (own d) (λ a. A .plus (own a) (own (d - a))) (d - 1)
+
+    new-sums : R (newFigure A best H own other d) sums
+    unfolding newFigure sums
+    new-sums = fold-first R best B sums (λ t. A .minus (own (d + t)) (other t)) (H - d)
+
+    pub new-old : R (newFigure A best H own other d) (own d)
+    unfolding sums
+    new-old = B .chain _ _ _ new-sums (fold-first R best B (own d) (λ a. A .plus (own a) (own (d - a))) (d - 1))
+
+    pub new-plus : (a : ℕ) → 1 ≤ a → a < d → R (newFigure A best H own other d) (A .plus (own a) (own (d - a)))
+    unfolding sums
+    new-plus a u v = B .chain _ _ _ new-sums (fold-each R best B (own d) (λ k. A .plus (own k) (own (d - k))) (d - 1) a u (omega arith))
+
+    pub new-minus : (t : ℕ) → 1 ≤ t → d + t ≤ H → R (newFigure A best H own other d) (A .minus (own (d + t)) (other t))
+    unfolding newFigure
+    new-minus t u v = fold-each R best B _ (λ k. A .minus (own (d + k)) (other k)) (H - d) t u (omega arith)
+
+    pub new-best : (z : A .Number) → R z (own d)
+        → ((a : ℕ) → 1 ≤ a → a < d → R z (A .plus (own a) (own (d - a))))
+        → ((t : ℕ) → 1 ≤ t → d + t ≤ H → R z (A .minus (own (d + t)) (other t)))
+        → R z (newFigure A best H own other d)
+    unfolding newFigure
+    new-best z old plus minus =
+        fold-both R best B _ _ z (H - d)
+        (fold-both R best B (own d) _ z (d - 1) old (λ a u v. plus a u (omega arith)))
+        (λ t u v. minus t u (omega arith))

@@ -1,0 +1,12 @@
+-- The theory of curves, at any horizon and for any figures (natural numbers). Assumes nothing.
+pub mod Figures
+pub mod Weight
+pub mod Sums
+pub mod Closed
+pub mod NextTick
+pub mod Extension
+pub mod Followed
+pub mod Kept
+pub mod CutOff
+pub mod Agreement
+pub mod Arrival

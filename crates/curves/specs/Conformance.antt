@@ -1,0 +1,34 @@
+-- Conformance (document 01, "The trade's terms").
+use Prim.Native.Nat.{ℕ, _+_, _≤_, _<_}
+use mathlib.Core.Path.{_≡_}
+use mathlib.Core.List.{List}
+use lib.ListN.{length}
+use Rattle.curves.specs.Pairs.{Pair, horizon, ceiling, least}
+use Rattle.curves.specs.Streams.{sum, countsOf}
+
+-- A window of d ticks with the sum x has too many, or too few. Nothing else compares a sum with a figure.
+abbrev pub TooMany : Pair → ℕ → ℕ → Type 0
+TooMany p d x = ceiling p d < x
+
+abbrev pub TooFew : Pair → ℕ → ℕ → Type 0
+TooFew p d x = x < least p d
+
+-- "A sum from its least to its ceiling."
+abbrev pub Inside : Pair → ℕ → ℕ → Type 0
+Inside p d x = (¬ TooMany p d x) × (¬ TooFew p d x)
+
+-- The first n ticks conform: "every window of 1 to H consecutive ticks that lies wholly inside" them has such a sum.
+abbrev pub ConformsUpTo : ℕ → Pair → (ℕ → ℕ) → Type 0
+ConformsUpTo n p s = (i d : ℕ) → 1 ≤ d → d ≤ horizon p → i + d ≤ n → Inside p d (sum s i d)
+
+-- A finite stream conforms; so the empty one does.
+abbrev pub Conforms : Pair → List ℕ → Type 0
+Conforms p xs = ConformsUpTo (length xs) p (countsOf xs)
+
+-- An unbounded stream conforms.
+abbrev pub Conforms∞ : Pair → (ℕ → ℕ) → Type 0
+Conforms∞ p s = (i d : ℕ) → 1 ≤ d → d ≤ horizon p → Inside p d (sum s i d)
+
+-- "A figure is met in a window of its length whose sum is that figure."
+abbrev pub MetIn : (ℕ → ℕ) → ℕ → ℕ → Type 0
+MetIn s d x = (i : ℕ) × (sum s i d ≡ x)

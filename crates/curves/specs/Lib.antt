@@ -1,0 +1,6 @@
+-- Document 01's terms, in its order, and what is proved of them.
+pub mod Streams
+pub mod Pairs
+pub mod Conformance
+pub mod Rounds
+pub mod Theorems

@@ -1,0 +1,45 @@
+-- Pairs of arrival curves (document 01, "The trade's terms"), of any horizon and any figures.
+use Prim.Native.Nat.{ℕ, zero, suc, _-_, _+_, _≤_, _<_}
+use mathlib.Core.Path.{_≡_}
+use mathlib.Core.List.{List}
+use lib.ListN.{length, getD}
+use Rattle.laws.specs.Ranges.{fold}
+
+-- Two lists of figures, numbers of the kind N: entry 0 is that of the window of one tick.
+pub record Curves (N : Type 0) : Type 0 where
+  -- Ceilings: the upper arrival curve.
+  pub upper : List N
+  -- Leasts: the lower arrival curve.
+  pub lower : List N
+
+-- The horizon H.
+abbrev pub horizon : {N : Type 0} → Curves N → ℕ
+horizon c = length (c .upper)
+
+-- The figure of a window of d ticks; z where the list has none, as for the window of no ticks.
+unfoldable pub figure : {N : Type 0} → N → List N → ℕ → N
+figure z us zero = z
+figure z us (suc d) = getD us d z
+
+-- Equality: "two are equal when their horizon and each ceiling and least for 1 to H are".
+pub record Same {N : Type 0} (z : N) (c e : Curves N) : Type 0 where
+  pub horizons : horizon c ≡ horizon e
+  pub uppers : (d : ℕ) → 1 ≤ d → d ≤ horizon c → figure z (c .upper) d ≡ figure z (e .upper) d
+  pub lowers : (d : ℕ) → 1 ≤ d → d ≤ horizon c → figure z (c .lower) d ≡ figure z (e .lower) d
+
+-- A pair of arrival curves, with its ceilings, its leasts and its equality.
+abbrev pub Pair : Type 0
+Pair = Curves ℕ
+
+abbrev pub ceiling : Pair → ℕ → ℕ
+ceiling p d = figure 0 (p .upper) d
+
+abbrev pub least : Pair → ℕ → ℕ
+least p d = figure 0 (p .lower) d
+
+abbrev pub Equal : Pair → Pair → Type 0
+Equal p q = Same 0 p q
+
+-- "The sum over all windows of ceiling minus least."
+abbrev pub slack : Pair → ℕ
+slack p = fold _+_ 0 (λ d. ceiling p d - least p d) (horizon p)

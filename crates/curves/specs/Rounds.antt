@@ -1,0 +1,111 @@
+-- The rounds (document 01, "The closure"), stated once over what they compute with: document 01's whole numbers, and the natural numbers with
+-- differences cut off at 0 that the code computes with.
+use Prim.Native.Nat.{ℕ, zero, suc, _+_, _-_, _≤_, _<_, min, max}
+use mathlib.Core.Path.{_≡_}
+use mathlib.Core.Bool.{cond}
+use lib.IntN.{ℤ, pos, _+ℤ_, _-ℤ_}
+use lib.Signed.{leZ, _<ℤ_}
+use Rattle.laws.specs.Ranges.{fold, table}
+use Rattle.curves.specs.Pairs.{Curves, horizon, figure, Same, Pair, ceiling, least}
+
+pub record Arithmetic : Type 1 where
+  pub Number : Type 0
+  pub of : ℕ → Number
+  pub plus : Number → Number → Number
+  pub minus : Number → Number → Number
+  pub smaller : Number → Number → Number
+  pub larger : Number → Number → Number
+  pub Below : Number → Number → Type 0
+
+-- "Differences are whole numbers and may be negative."
+abbrev pub whole : Arithmetic
+whole =
+    record
+      { Number = ℤ
+      ; of = pos
+      ; plus = _+ℤ_
+      ; minus = _-ℤ_
+      ; smaller = λ x y. cond (leZ x y) x y
+      ; larger = λ x y. cond (leZ x y) y x
+      ; Below = _<ℤ_
+      }
+
+abbrev pub cutOff : Arithmetic
+cutOff =
+    record
+      { Number = ℕ
+      ; of = λ n. n
+      ; plus = _+_
+      ; minus = _-_
+      ; smaller = min
+      ; larger = max
+      ; Below = _<_
+      }
+
+module _ (A : Arithmetic) where
+  -- "New ceiling of a window d: the smallest of the old ceiling of d; ceiling of a plus ceiling of d − a, for 1 ≤ a < d; ceiling of d + t minus
+  -- least of t, for t ≥ 1 and d + t ≤ H." The new least is the same with the two curves, and smallest and largest, exchanged.
+  unfoldable pub newFigure : (A .Number → A .Number → A .Number) → ℕ → (ℕ → A .Number) → (ℕ → A .Number) → ℕ → A .Number
+  newFigure best H own other d =
+      fold best (fold best (own d) (λ a. A .plus (own a) (own (d - a))) (d - 1)) (λ t. A .minus (own (d + t)) (other t)) (H - d)
+
+  abbrev pub upperAt : Curves (A .Number) → ℕ → A .Number
+  upperAt c d = figure (A .of 0) (c .upper) d
+
+  abbrev pub lowerAt : Curves (A .Number) → ℕ → A .Number
+  lowerAt c d = figure (A .of 0) (c .lower) d
+
+  -- "A round replaces all figures together, from the old ones."
+  unfoldable pub round : Curves (A .Number) → Curves (A .Number)
+  round c =
+      record
+        { upper = table (newFigure (A .smaller) (horizon c) (upperAt c) (lowerAt c)) (horizon c)
+        ; lower = table (newFigure (A .larger) (horizon c) (lowerAt c) (upperAt c)) (horizon c)
+        }
+
+  -- "Some least is above its ceiling."
+  pub record Crossed (c : Curves (A .Number)) : Type 0 where
+    pub window : ℕ
+    pub positive : 1 ≤ window
+    pub within : window ≤ horizon c
+    pub above : A .Below (upperAt c window) (lowerAt c window)
+
+  -- A round "changes nothing".
+  abbrev pub Settled : Curves (A .Number) → Type 0
+  Settled c = Same (A .of 0) (round c) c
+
+  -- A pair's figures, as these numbers.
+  unfoldable pub given : Pair → Curves (A .Number)
+  given p =
+      record
+        { upper = table (λ d. A .of (ceiling p d)) (horizon p)
+        ; lower = table (λ d. A .of (least p d)) (horizon p)
+        }
+
+  -- The figures after n rounds, if so many are run.
+  unfoldable pub after : ℕ → Pair → Curves (A .Number)
+  after zero p = given p
+  after (suc n) p = round (after n p)
+
+  -- n rounds are run, and each changes a figure: "rounds go on until one changes nothing or some least is above its ceiling, the pair as given
+  -- included".
+  pub record Runs (p : Pair) (n : ℕ) : Type 0 where
+    pub uncrossed : (k : ℕ) → k < n → ¬ Crossed (after k p)
+    pub changes : (k : ℕ) → k < n → ¬ Settled (after k p)
+
+  -- The rounds arrive at the closure q, after n that changed a figure.
+  pub record Arrives (p : Pair) (n : ℕ) (q : Pair) : Type 0 where
+    pub runs : Runs p n
+    pub uncrossed : ¬ Crossed (after n p)
+    pub settled : Settled (after n p)
+    pub figures : Same (A .of 0) (after n p) (given q)
+
+  -- The rounds end with some least above its ceiling, after n that changed a figure; there is no closure.
+  pub record Crosses (p : Pair) (n : ℕ) : Type 0 where
+    pub runs : Runs p n
+    pub crossed : Crossed (after n p)
+
+-- A causal pair, one that is its own closure: no least is above its ceiling, and a round changes nothing.
+pub record Causal (p : Pair) : Type 0 where
+  pub uncrossed : ¬ Crossed whole (given whole p)
+  pub settled : Settled whole (given whole p)

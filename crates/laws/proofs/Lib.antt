@@ -1,0 +1,5 @@
+-- Laws over plain variables, each stated once: what the specifications, the theory and the loops' proofs cite.
+pub mod Best
+pub mod Table
+pub mod Search
+pub mod Whole

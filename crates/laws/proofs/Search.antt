@@ -1,0 +1,22 @@
+-- A search through the windows of a range: every one is as wanted, or something else is found.
+-- Assumes nothing.
+use Prim.Native.Nat.{ℕ, zero, suc, _≤_, _<_}
+use mathlib.Core.Path.{_≡_, refl, sym, subst}
+use mathlib.Core.Logic.{_⊎_, inl, inr, ⊎-elim}
+use native.Mathlib.Nat.{le-refl, le-step, le-suc-iff, le-of-suc-le-suc, eq-or-lt-of-le}
+use native.Mathlib.Omega.{arith}
+
+pub every : (P : ℕ → Type 0) (Q : Type 0) (n : ℕ) → ((d : ℕ) → 1 ≤ d → d ≤ n → P d ⊎ Q) → ((d : ℕ) → 1 ≤ d → d ≤ n → P d) ⊎ Q
+every P Q zero h = inl (λ d p q. absurd (omega arith))
+every P Q (suc n) h = ⊎-elim (λ all. ⊎-elim (λ last. inl (more all last)) inr (h (suc n) (omega arith) (le-refl (suc n)))) inr (every P Q n (λ d p q. h d p (le-step q)))
+  where
+    more : ((d : ℕ) → 1 ≤ d → d ≤ n → P d) → P (suc n) → (d : ℕ) → 1 ≤ d → d ≤ suc n → P d
+    more all last d p q = ⊎-elim (λ l. all d p l) (λ e. subst P (sym e) last) (le-suc-iff .0 q)
+
+-- What holds below n, and at n, holds below n + 1.
+pub below-suc : (P : ℕ → Type 0) (n : ℕ) → ((k : ℕ) → k < n → P k) → P n → (k : ℕ) → k < suc n → P k
+below-suc P n all last k l =
+    ⊎-elim
+    (λ e. let e′ : n ≡ k = omega arith in subst P e′ last)
+    (λ i. all k (le-of-suc-le-suc i))
+    (eq-or-lt-of-le l)

@@ -1,0 +1,1 @@
+// No function: laws that the specifications and proofs above cite.
