@@ -1,13 +1,14 @@
 -- What the private functions of this crate promise each other. A reader of `close`'s promise need not read it.
-use Prim.Native.Nat.{ℕ, _≤_}
+use Prim.Native.Nat.{ℕ, _+_, _-_, _≤_, _<_, min, max}
 use mathlib.Core.Path.{_≡_}
 use mathlib.Core.Bool.{Bool, true, false}
 use mathlib.Core.List.{List}
 use lib.ListN.{length, getD}
-use Rattle.curves.specs.Pairs.{Pair}
-use Rattle.curves.specs.Rounds.{cutOff, Arrives, Crosses}
-use Rattle.closure.specs.declared.Ending.{Ending}
-use Rattle.closure.specs.declared.Ending.the-variants.{Arrived, Crossed}
+use Rattle.laws.specs.Ranges.{fold}
+use Rattle.curves.specs.Pairs.{Pair, figure, horizon}
+use Rattle.curves.specs.Rounds.{cutOff, newFigure, round, upperAt, lowerAt, Arrives, Crosses}
+use Rattle.closure.specs.declared.rounds.Ending.{Ending}
+use Rattle.closure.specs.declared.rounds.Ending.the-variants.{Arrived, Crossed}
 
 -- Two lists as a pair.
 abbrev pub pairOf : List ℕ → List ℕ → Pair
@@ -17,10 +18,44 @@ pairOf us ls = record { upper = us; lower = ls }
 abbrev pub Bounded : List ℕ → Type 0
 Bounded us = (i : ℕ) → getD us i 0 ≤ 16_776_960
 
--- A test's answer: what it tells where it is true, and the contrary where it is false.
+-- Some figure is above that.
+abbrev pub Exceeds : List ℕ → Type 0
+Exceeds us = (i : ℕ) × (i < length us) × (16_776_960 < getD us i 0)
+
+-- A test's answer: what it tells where it is true, and what where it is false.
+abbrev pub Either : Bool → Type 0 → Type 0 → Type 0
+Either true P Q = P
+Either false P Q = Q
+
+-- The same, where the one is the contrary of the other.
 abbrev pub Tells : Bool → Type 0 → Type 0
-Tells true P = P
-Tells false P = ¬ P
+Tells b P = Either b P (¬ P)
+
+-- The lists of a pair, and those that a round is to be put into.
+pub record SameLengths (us ls nus nls : List ℕ) : Type 0 where
+  pub lowers : length ls ≡ length us
+  pub new-uppers : length nus ≡ length us
+  pub new-lowers : length nls ≡ length us
+
+-- The best of the figure of d ticks and those of its two parts, where it is cut after 1 to n ticks.
+abbrev pub sums : (ℕ → ℕ → ℕ) → List ℕ → ℕ → ℕ → ℕ
+sums best own d n = fold best (figure 0 own d) (λ a. figure 0 own a + figure 0 own (d - a)) n
+
+-- The best of x and the figures that windows longer by 1 to n ticks give one of d ticks.
+abbrev pub differences : (ℕ → ℕ → ℕ) → ℕ → List ℕ → List ℕ → ℕ → ℕ → ℕ
+differences best x own other d n = fold best x (λ t. figure 0 own (d + t) - figure 0 other t) n
+
+-- The figures that a round gives a window of d ticks.
+abbrev pub newUpper : Pair → ℕ → ℕ
+newUpper c = newFigure cutOff min (horizon c) (upperAt cutOff c) (lowerAt cutOff c)
+
+abbrev pub newLower : Pair → ℕ → ℕ
+newLower c = newFigure cutOff max (horizon c) (lowerAt cutOff c) (upperAt cutOff c)
+
+-- A round takes c to the pair next, and it is told whether they are the same.
+pub record Advanced (c : Pair) (done : Bool) (next : Pair) : Type 0 where
+  pub figures : next ≡ round cutOff c
+  pub told : Tells done (next ≡ c)
 
 -- How the rounds of p ended, with the pair q then held.
 abbrev pub Ended : Pair → Ending → Pair → Type 0

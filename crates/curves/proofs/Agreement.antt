@@ -60,7 +60,7 @@ same-given c e q = record { horizons = hor; uppers = upper; lowers = lower }
         ap natAbs
         (sym (given-lower whole c d u v) ∙ q .lowers d u (rw (given-horizon whole c) v) ∙ given-lower whole e d u (rw (sym hor) v))
 
-same-refl : {N : Type 0} (z : N) (c : Curves N) → Same z c c
+pub same-refl : {N : Type 0} (z : N) (c : Curves N) → Same z c c
 same-refl z c = record { horizons = refl; uppers = λ d u v. refl; lowers = λ d u v. refl }
 
 pub given-same-whole : (c e : Pair) → Equal c e → Same (pos 0) (given whole c) (given whole e)

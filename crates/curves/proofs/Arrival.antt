@@ -119,3 +119,7 @@ pub rounds-within-slack : RoundsWithinSlack
 rounds-within-slack p q n a =
     let b : Arrives cutOff p n q = arrives-agree p n q .0 a in
     omega (arith, slack-left p n (b .runs) (b .uncrossed) n (le-refl n))
+
+-- ---- whether the rounds end with a closure can be told
+pub closes? : (p : Pair) → Dec (Closes p)
+closes? p = ⊎-elim (λ a. yes a) (λ x. no (λ a. never-both p (a .1) (a .0) (x .0) (a .2) (x .1))) (arrives-or-crosses p)

@@ -10,3 +10,5 @@ pub mod Kept
 pub mod CutOff
 pub mod Agreement
 pub mod Arrival
+pub mod Closure
+pub mod Answers

@@ -3,4 +3,5 @@ pub mod Streams
 pub mod Pairs
 pub mod Conformance
 pub mod Rounds
+pub mod Questions
 pub mod Theorems

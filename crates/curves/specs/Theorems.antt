@@ -1,17 +1,18 @@
--- What is proved of pairs, streams and rounds, at any horizon and for any figures.
-use Prim.Native.Nat.{ℕ, _+_, _≤_}
+-- What is proved of pairs, streams and rounds, at any horizon and for any figures. `proofs/` proves exactly these statements.
+use Prim.Native.Nat.{ℕ, _≤_}
 use mathlib.Core.Path.{_≡_}
 use mathlib.Core.List.{List, [], _∷_, _++_}
 use mathlib.Core.Logic.{_↔_, _⊎_}
+use lib.IntN.{pos}
 use Rattle.curves.specs.Pairs.{Pair, Equal, Same, horizon, slack}
 use Rattle.curves.specs.Conformance.{Conforms, Conforms∞}
-use Rattle.curves.specs.Rounds.{Arithmetic, whole, cutOff, given, after, Crossed, Arrives, Crosses, Causal}
+use Rattle.curves.specs.Rounds.{whole, cutOff, given, after, Crossed, Arrives, Crosses, Causal}
 
 -- The rounds of p end with a closure.
 abbrev pub Closes : Pair → Type 0
 Closes p = (n : ℕ) × (q : Pair) × Arrives whole p n q
 
--- 1. "For every pair exactly one holds: .. "
+-- ---- 1. The rounds of every pair arrive or cross: one of the two, and once.
 abbrev pub ArrivesOrCrosses : Type 0
 ArrivesOrCrosses = (p : Pair) → Closes p ⊎ ((n : ℕ) × Crosses whole p n)
 
@@ -24,5 +25,36 @@ ArrivesOnce = (p q r : Pair) (m n : ℕ) → Arrives whole p m q → Arrives who
 abbrev pub CrossesOnce : Type 0
 CrossesOnce = (p : Pair) (m n : ℕ) → Crosses whole p m → Crosses whole p n → m ≡ n
 
+-- "Where there is a closure, that count is at most the sum over all windows of ceiling minus least in the pair as given."
 abbrev pub RoundsWithinSlack : Type 0
 RoundsWithinSlack = (p q : Pair) (n : ℕ) → Arrives whole p n q → n ≤ slack p
+
+-- ---- 2. Rounds keep exactly the same unbounded conforming streams: q holds the figures of p after n rounds; where they cross, no stream conforms.
+abbrev pub RoundsKeepStreams : Type 0
+RoundsKeepStreams = (p q : Pair) (n : ℕ) → Same (pos 0) (after whole n p) (given whole q) → (s : ℕ → ℕ) → Conforms∞ p s ↔ Conforms∞ q s
+
+abbrev pub CrossedHasNoStream : Type 0
+CrossedHasNoStream = (p : Pair) (n : ℕ) → Crossed whole (after whole n p) → (s : ℕ → ℕ) → Conforms∞ p s → ⊥
+
+-- ---- 3. Rounds with differences cut off at 0 arrive at the same, or cross, after as many rounds.
+abbrev pub CutOffArrives : Type 0
+CutOffArrives = (p : Pair) (n : ℕ) (q : Pair) → Arrives whole p n q ↔ Arrives cutOff p n q
+
+abbrev pub CutOffCrosses : Type 0
+CutOffCrosses = (p : Pair) (n : ℕ) → Crosses whole p n ↔ Crosses cutOff p n
+
+-- ---- 8. The closure is causal, and a pair is causal exactly where it is its own closure, which then takes no round.
+abbrev pub ClosureIsCausal : Type 0
+ClosureIsCausal = (p q : Pair) (n : ℕ) → Arrives whole p n q → Causal q
+
+abbrev pub CausalIffOwnClosure : Type 0
+CausalIffOwnClosure = (p : Pair) → Causal p ↔ ((n : ℕ) × Arrives whole p n p)
+
+abbrev pub CausalTakesNoRound : Type 0
+CausalTakesNoRound = (p : Pair) → Causal p → Arrives whole p 0 p
+
+-- ---- 9. One more tick: a finite stream that conforms to a causal pair can go on with the counts from some lo to some hi, of which there is one.
+abbrev pub OneMoreTick : Type 0
+OneMoreTick =
+    (p : Pair) (xs : List ℕ) → 1 ≤ horizon p → Causal p → Conforms p xs
+    → (lo : ℕ) × (hi : ℕ) × (lo ≤ hi) × ((x : ℕ) → Conforms p (xs ++ (x ∷ [])) ↔ ((lo ≤ x) × (x ≤ hi)))

@@ -20,3 +20,6 @@ below-suc P n all last k l =
     (λ e. let e′ : n ≡ k = omega arith in subst P e′ last)
     (λ i. all k (le-of-suc-le-suc i))
     (eq-or-lt-of-le l)
+
+pub every? : (P : ℕ → Type 0) (n : ℕ) → ((d : ℕ) → Dec (P d)) → Dec ((d : ℕ) → 1 ≤ d → d ≤ n → P d)
+every? P n h = ⊎-elim (λ f. yes f) (λ g. no g) (every P (¬ ((d : ℕ) → 1 ≤ d → d ≤ n → P d)) n (λ d u v. elim (h d) [ yes x ↦ inl x | no x ↦ inr (λ f. x (f d u v)) ]))

@@ -1,0 +1,102 @@
+-- Laws over plain variables that the proofs of this crate's functions cite.
+-- Assumes nothing.
+use Prim.Native.Nat.{ℕ, zero, suc, _+_, _-_, _≤_, _<_}
+use mathlib.Core.Path.{_≡_, refl, ap, _∙_, subst}
+use mathlib.Core.Bool.{Bool, true, false}
+use mathlib.Core.List.{List, _++_}
+use native.Mathlib.Decide.{decLe}
+use native.Mathlib.Numerals.{add-one}
+use native.Mathlib.Omega.{arith}
+use lib.ListN.{length, getD, set, drop, length-set, List·getD-eq-default}
+use Rattle.laws.specs.Ranges.{fold, table}
+use Rattle.laws.proofs.Best.{fold-turn}
+use Rattle.laws.proofs.Table.{fill-turn, fill-done, table-self}
+use Rattle.curves.specs.Pairs.{figure}
+use Rattle.curves.specs.Rounds.{cutOff, newFigure, round, Crossed}
+use Rattle.closure.specs.Steps.{pairOf, Bounded, Tells, sums, differences, Advanced}
+
+-- A figure by its index.
+pub figure-next : (us : List ℕ) (i : ℕ) → getD us i 0 ≡ figure 0 us (i + 1)
+unfolding figure
+figure-next us i = rw add-one
+
+pub figure-bounded : (us : List ℕ) → Bounded us → (d : ℕ) → figure 0 us d ≤ 16_776_960
+unfolding figure
+figure-bounded us b zero = omega arith
+figure-bounded us b (suc d) = b d
+
+-- Figures that are bounded as far as the list goes are bounded.
+pub bounded-within : (us : List ℕ) → ((i : ℕ) → i < length us → getD us i 0 ≤ 16_776_960) → Bounded us
+bounded-within us h i = elim (decLe (length us) i) [ yes p ↦ omega (arith, List·getD-eq-default us 0 p) | no p ↦ h i (omega arith) ]
+
+-- A turn of a loop that holds the best of x and f 1 to f (k - 1), and takes f k.
+pub best-turn
+    : (op : ℕ → ℕ → ℕ) (x : ℕ) (f : ℕ → ℕ) (k held more next : ℕ) → 1 ≤ k
+    → held ≡ fold op x f (k - 1) → more ≡ f k → next ≡ op held more → next ≡ fold op x f (k + 1 - 1)
+best-turn op x f k held more next h p q r = r ∙ rw (p, q) (fold-turn op x f k h)
+
+-- A new figure is the best of the sums, and then of the differences.
+pub new-figure
+    : (best : ℕ → ℕ → ℕ) (H : ℕ) (own other : List ℕ) (d x y : ℕ)
+    → x ≡ sums best own d (d - 1) → y ≡ differences best x own other d (H - d)
+    → y ≡ newFigure cutOff best H (λ k. figure 0 own k) (λ k. figure 0 other k) d
+unfolding newFigure
+new-figure best H own other d x y p q = q ∙ ap (λ z. differences best z own other d (H - d)) p
+
+-- A list is the table of its figures.
+pub table-figures : (us : List ℕ) → table (figure 0 us) (length us) ≡ us
+unfolding figure
+table-figures us = table-self (figure 0 us) us 0 (λ i h. refl)
+
+-- A loop that fills a list with f 1, f 2 and so on: what it has done before its turn at i.
+pub record Filled (f : ℕ → ℕ) (out₀ out : List ℕ) (i : ℕ) : Type 0 where
+  pub whole : length out ≡ length out₀
+  pub parts : out ≡ table f i ++ drop i out₀
+
+pub unfilled : (f : ℕ → ℕ) (out : List ℕ) → Filled f out out 0
+unfolding table
+unfilled f out = record { whole = refl; parts = refl }
+
+module _ {f : ℕ → ℕ} {out₀ out : List ℕ} {i : ℕ} (t : Filled f out₀ out i) where
+  pub stored : (v : ℕ) → i < length out₀ → v ≡ f (i + 1) → Filled f out₀ (set out i v) (i + 1)
+  stored v l e = record { whole = length-set out i v ∙ t .whole; parts = rw (t .parts, e) (fill-turn f out₀ i l) }
+
+  pub filled : (n : ℕ) → i ≡ n → length out₀ ≡ n → out ≡ table f n
+  filled n e l = t .parts ∙ fill-done f out₀ i (omega arith) ∙ ap (table f) e
+
+-- A least above its ceiling, by its index, and none as far as the lists go.
+pub crossed-at : (us ls : List ℕ) (i : ℕ) → i < length us → getD us i 0 < getD ls i 0 → Crossed cutOff (pairOf us ls)
+unfolding figure
+crossed-at us ls i h l = record { window = suc i; positive = omega arith; within = h; above = l }
+
+pub uncrossed : (us ls : List ℕ) → ((i : ℕ) → i < length us → getD ls i 0 ≤ getD us i 0) → ¬ Crossed cutOff (pairOf us ls)
+unfolding figure
+uncrossed us ls h x = go (x .window) (x .positive) (x .within) (x .above)
+  where
+    go : (d : ℕ) → 1 ≤ d → d ≤ length us → figure 0 us d < figure 0 ls d → ⊥
+    go zero p q l = absurd (omega arith)
+    go (suc d) p q l = omega (arith, h d q)
+
+-- A test's answer where it is known.
+pub tells-true : (P : Type 0) (b : Bool) → b ≡ true → Tells b P → P
+tells-true P b e t = subst (λ (x : Bool). Tells x P) e t
+
+pub tells-false : (P : Type 0) (b : Bool) → b ≡ false → Tells b P → ¬ P
+tells-false P b e t = subst (λ (x : Bool). Tells x P) e t
+
+-- Two pairs with the same ceilings are the same where their leasts are.
+pub pairs-told
+    : (us ls nus nls : List ℕ) (b : Bool) → nus ≡ us → Tells b (nls ≡ ls) → Tells b (pairOf nus nls ≡ pairOf us ls)
+pairs-told us ls nus nls true e f = λ i. record { upper = e i; lower = f i }
+pairs-told us ls nus nls false e f = λ q. f (ap (λ p. p .lower) q)
+
+-- A round is put into nus and nls, and from there into xs and ys.
+pub advanced
+    : (us ls nus nls xs ys : List ℕ) (b : Bool)
+    → nus ≡ round cutOff (pairOf us ls) .upper → nls ≡ round cutOff (pairOf us ls) .lower
+    → Tells b (pairOf nus nls ≡ pairOf us ls) → xs ≡ nus → ys ≡ nls → Advanced (pairOf us ls) b (pairOf xs ys)
+advanced us ls nus nls xs ys b u l t p q =
+    record {
+      figures = λ i. record { upper = (p ∙ u) i; lower = (q ∙ l) i };
+      told = rw (p, q) t;
+    }

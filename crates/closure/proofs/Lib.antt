@@ -1,0 +1,5 @@
+-- What is proved of closing, and the laws that the functions' proofs cite. Assumes nothing.
+pub mod Said
+pub mod Given
+mod Laws
+mod Progress

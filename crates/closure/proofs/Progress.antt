@@ -1,0 +1,117 @@
+-- What the loop over the rounds holds: how far they have come, and that there are fewer of them than a u32 counts.
+-- Assumes nothing.
+use Prim.Native.Nat.{ℕ, zero, suc, _+_, _-_, _*_, _≤_, _<_}
+use mathlib.Core.Path.{_≡_, refl, sym, ap, _∙_, subst}
+use mathlib.Core.Bool.{Bool, true, false}
+use native.Mathlib.Nat.{suc-mul}
+use native.Mathlib.Numerals.{add-one}
+use native.Mathlib.Omega.{arith}
+use borrow.Author.Count.{below-none, below-more}
+use lib.ListN.{length}
+use lib.Seq.{ext-getD}
+use Rattle.laws.specs.Ranges.{fold}
+use Rattle.laws.proofs.Table.{length-table}
+use Rattle.curves.specs.Pairs.{Pair, Same, horizon, figure, ceiling, least}
+use Rattle.curves.specs.Rounds.{cutOff, round, Crossed, Settled, after, Runs, Arrives, Crosses}
+use Rattle.curves.proofs.Figures.{given-self, round-horizon}
+use Rattle.curves.proofs.Weight.{below, upper-falls, weight, weight-falls}
+use Rattle.closure.specs.Steps.{Bounded, Advanced}
+use Rattle.closure.proofs.Laws.{bounded-within, figure-bounded, tells-true, tells-false}
+
+-- A pair with as many leasts as ceilings.
+abbrev pub Even : Pair → Type 0
+Even c = length (c .lower) ≡ length (c .upper)
+
+round-even : (c : Pair) → Even (round cutOff c)
+unfolding round
+round-even c = length-table _ (horizon c) ∙ sym (length-table _ (horizon c))
+
+-- Pairs whose figures are the same are one.
+same-pair : (c e : Pair) → Even c → Even e → Same 0 c e → c ≡ e
+unfolding figure
+same-pair c e u v s =
+    λ i. record {
+      upper = ext-getD 0 (c .upper) (e .upper) (s .horizons) (λ k l. s .uppers (suc k) (omega arith) l) i;
+      lower = ext-getD 0 (c .lower) (e .lower) (u ∙ s .horizons ∙ sym v) (λ k l. s .lowers (suc k) (omega arith) (omega arith)) i;
+    }
+
+pair-same : (c e : Pair) → c ≡ e → Same 0 c e
+pair-same c e h = subst (λ (x : Pair). Same 0 c x) h (record { horizons = refl; uppers = λ d p q. refl; lowers = λ d p q. refl })
+
+-- No least is above its ceiling, so the leasts are bounded as the ceilings are.
+pub lower-bounded : (c : Pair) → Even c → ¬ Crossed cutOff c → Bounded (c .upper) → Bounded (c .lower)
+unfolding figure
+lower-bounded c e n b = bounded-within (c .lower) (λ i l. omega (arith, below c n (suc i) (omega arith) (omega arith), b i))
+
+round-bounded : (c : Pair) → Bounded (c .upper) → Bounded (round cutOff c .upper)
+unfolding figure
+round-bounded c b =
+    bounded-within (round cutOff c .upper)
+    (λ i l. omega (arith, upper-falls c (suc i) (omega arith) (omega (arith, round-horizon cutOff c)), b i))
+
+sum-limit : (f : ℕ → ℕ) (k n : ℕ) → ((d : ℕ) → f d ≤ k) → fold _+_ 0 f n ≤ n * k
+unfolding fold
+sum-limit f k zero h = omega arith
+sum-limit f k (suc n) h = omega (arith, suc-mul n k, sum-limit f k n h, h (suc n))
+
+pub weight-limit : (c : Pair) → horizon c ≤ 256 → Bounded (c .upper) → weight c ≤ 4_294_902_016
+weight-limit c h b =
+    omega (arith, sum-limit (λ d. ceiling c d + 1 - least c d) 16_776_961 (horizon c) (λ d. omega (arith, figure-bounded (c .upper) b d)))
+
+-- The rounds of p have come to c, after n that changed a figure.
+pub record Held (p : Pair) (n : ℕ) (c : Pair) : Type 0 where
+  pub runs : Runs cutOff p n
+  pub figures : c ≡ after cutOff n p
+  pub even : Even c
+  pub bounded : Bounded (c .upper)
+  pub turns : n + weight c ≤ weight p
+
+pub begins : (p : Pair) → Even p → Bounded (p .upper) → Held p 0 p
+unfolding after
+begins p e b =
+    record {
+      runs = record { uncrossed = below-none _; changes = below-none _ };
+      figures = sym (given-self p e);
+      even = e;
+      bounded = b;
+      turns = omega arith;
+    }
+
+module _ (p : Pair) (n : ℕ) (c : Pair) (h : Held p n c) where
+  pub crosses : Crossed cutOff c → Crosses cutOff p n
+  crosses x = record { runs = h .runs; crossed = subst (λ (y : Pair). Crossed cutOff y) (h .figures) x }
+
+  module _ (uncrossed : ¬ Crossed cutOff c) (done : Bool) (next : Pair) (a : Advanced c done next) where
+    next-even : Even next
+    next-even = subst Even (sym (a .figures)) (round-even c)
+
+    pub arrives : done ≡ true → Arrives cutOff p n next
+    arrives t =
+        let e : next ≡ c = tells-true _ done t (a .told) in
+        record {
+          runs = h .runs;
+          uncrossed = subst (λ (y : Pair). ¬ Crossed cutOff y) (h .figures) uncrossed;
+          settled = subst (λ (y : Pair). Settled cutOff y) (h .figures) (pair-same _ _ (sym (a .figures) ∙ e));
+          figures = pair-same _ _ (sym (h .figures) ∙ sym e ∙ sym (given-self next next-even));
+        }
+
+    unsettled : done ≡ false → ¬ Settled cutOff c
+    unsettled f s = tells-false (next ≡ c) done f (a .told) (a .figures ∙ same-pair (round cutOff c) c (round-even c) (h .even) s)
+
+    pub lighter : done ≡ false → weight next < weight c
+    lighter f = subst (λ (y : Pair). weight y < weight c) (sym (a .figures)) (weight-falls c uncrossed (unsettled f))
+
+    pub goes-on : done ≡ false → Held p (n + 1) next
+    unfolding after
+    goes-on f =
+        record {
+          runs =
+              record {
+                uncrossed = below-more _ n (h .runs .uncrossed) (subst (λ (y : Pair). ¬ Crossed cutOff y) (h .figures) uncrossed);
+                changes = below-more _ n (h .runs .changes) (subst (λ (y : Pair). ¬ Settled cutOff y) (h .figures) (unsettled f));
+              };
+          figures = a .figures ∙ ap (round cutOff) (h .figures) ∙ rw add-one;
+          even = next-even;
+          bounded = subst (λ (y : Pair). Bounded (y .upper)) (sym (a .figures)) (round-bounded c (h .bounded));
+          turns = omega (arith, lighter f);
+        }

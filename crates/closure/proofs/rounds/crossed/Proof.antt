@@ -1,0 +1,69 @@
+-- `closure::rounds::crossed` meets its contract: before a turn no least before i is above its ceiling.
+-- Assumes nothing.
+use Prim.Native.Nat.{ℕ, _-_, _≤_, _<_}
+use native.Mathlib.Omega.{arith}
+use borrow.Author.Needs.{needs}
+use borrow.Author.Count.{below-none, below-more}
+use lib.ListN.{length, getD}
+use Rattle.closure.proofs.Laws.{crossed-at, uncrossed}
+use Rattle.closure.proofs.rounds.crossed.Statement.{statement}
+use Rattle.closure.proofs.rounds.crossed.Tie as tie
+
+abbrev Inv-loop : tie.InvT-loop
+Inv-loop upper lower i₀ i = (i ≤ length upper) × ((k : ℕ) → k < i → getD lower k 0 ≤ getD upper k 0)
+
+abbrev μ-loop : tie.MeasureT-loop
+μ-loop upper lower i₀ i = length upper - i
+
+loop-holds : tie.Need-loop-holds Inv-loop μ-loop
+loop-holds c = (search needs, below-none _)
+
+mul-if1 : tie.Need-mul-if1 Inv-loop μ-loop
+mul-if1 c = search needs
+
+shared-slice-read-if1 : tie.Need-shared-slice-read-if1 Inv-loop μ-loop
+shared-slice-read-if1 c = search needs
+
+mul-if1-2 : tie.Need-mul-if1-2 Inv-loop μ-loop
+mul-if1-2 c = search needs
+
+shared-slice-read-if1-2 : tie.Need-shared-slice-read-if1-2 Inv-loop μ-loop
+shared-slice-read-if1-2 c = search needs
+
+returns : tie.Need-returns Inv-loop μ-loop
+returns c =
+    let turn = c .before .before .before .before in
+    let args = turn .before .args in
+    crossed-at (args .upper .now) (args .lower .now) (turn .loop .i) (omega arith) (c .if1 .taken)
+
+add-i : tie.Need-add-i Inv-loop μ-loop
+add-i c = search needs
+
+loop-less : tie.Need-loop-less Inv-loop μ-loop
+loop-less c = search needs
+
+loop-again : tie.Need-loop-again Inv-loop μ-loop
+loop-again c =
+    (search needs, below-more _ _ (c .before .before .before .before .loop .inv .1) (c .if1 .left))
+
+returns-2 : tie.Need-returns-2 Inv-loop μ-loop
+returns-2 c =
+    let args = c .before .before .args in
+    uncrossed (args .upper .now) (args .lower .now) (λ i h. c .before .loop .inv .1 i (omega arith))
+
+pub crossed-spec : {M : Type 1} → statement M
+crossed-spec =
+    tie.close
+    (tie.spec
+    Inv-loop
+    μ-loop
+    loop-holds
+    mul-if1
+    shared-slice-read-if1
+    mul-if1-2
+    shared-slice-read-if1-2
+    returns
+    add-i
+    loop-less
+    loop-again
+    returns-2)

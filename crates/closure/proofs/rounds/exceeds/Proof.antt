@@ -1,0 +1,57 @@
+-- `closure::rounds::exceeds` meets its contract: before a turn no figure before i is above the bound.
+-- Assumes nothing.
+use Prim.Native.Nat.{ℕ, _-_, _≤_, _<_}
+use native.Mathlib.Omega.{arith}
+use borrow.Author.Needs.{needs}
+use borrow.Author.Count.{below-none, below-more}
+use lib.ListN.{length, getD}
+use Rattle.closure.proofs.Laws.{bounded-within}
+use Rattle.closure.proofs.rounds.exceeds.Statement.{statement}
+use Rattle.closure.proofs.rounds.exceeds.Tie as tie
+
+abbrev Inv-loop : tie.InvT-loop
+Inv-loop figures i₀ i = (i ≤ length figures) × ((k : ℕ) → k < i → getD figures k 0 ≤ 16_776_960)
+
+abbrev μ-loop : tie.MeasureT-loop
+μ-loop figures i₀ i = length figures - i
+
+loop-holds : tie.Need-loop-holds Inv-loop μ-loop
+loop-holds c = (search needs, below-none _)
+
+mul-if1 : tie.Need-mul-if1 Inv-loop μ-loop
+mul-if1 c = search needs
+
+shared-slice-read-if1 : tie.Need-shared-slice-read-if1 Inv-loop μ-loop
+shared-slice-read-if1 c = search needs
+
+returns : tie.Need-returns Inv-loop μ-loop
+returns c = (c .before .before .before .loop .i, omega arith, c .if1 .taken)
+
+add-i : tie.Need-add-i Inv-loop μ-loop
+add-i c = search needs
+
+loop-less : tie.Need-loop-less Inv-loop μ-loop
+loop-less c = search needs
+
+loop-again : tie.Need-loop-again Inv-loop μ-loop
+loop-again c =
+    (search needs, below-more _ _ (c .before .before .before .loop .inv .1) (c .if1 .left))
+
+returns-2 : tie.Need-returns-2 Inv-loop μ-loop
+returns-2 c =
+    bounded-within (c .before .before .args .figures .now) (λ i h. c .before .loop .inv .1 i (omega arith))
+
+pub exceeds-spec : {M : Type 1} → statement M
+exceeds-spec =
+    tie.close
+    (tie.spec
+    Inv-loop
+    μ-loop
+    loop-holds
+    mul-if1
+    shared-slice-read-if1
+    returns
+    add-i
+    loop-less
+    loop-again
+    returns-2)

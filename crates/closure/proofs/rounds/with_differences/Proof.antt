@@ -1,0 +1,82 @@
+-- `closure::rounds::with_differences` meets its contract: before a turn the best of the windows longer by less than t is held.
+-- Assumes nothing.
+use Prim.Native.Nat.{_+_, _-_, _≤_, min, max}
+use mathlib.Core.Path.{_≡_, refl, ap, _∙_}
+use native.Mathlib.Omega.{arith}
+use borrow.Author.Needs.{needs}
+use Rattle.laws.specs.Ranges.{fold}
+use Rattle.closure.specs.Steps.{differences}
+use Rattle.closure.proofs.Laws.{best-turn}
+use Rattle.closure.proofs.rounds.with_differences.Statement.{statement}
+use Rattle.closure.proofs.rounds.with_differences.Tie as tie
+
+abbrev Inv-loop : tie.InvT-loop
+Inv-loop upper lower d most₀ least₀ longest t₀ most least t =
+    (1 ≤ t)
+    × (t ≤ longest + 1)
+    × (most ≡ differences min most₀ upper lower d (t - 1))
+    × (least ≡ differences max least₀ lower upper d (t - 1))
+
+abbrev μ-loop : tie.MeasureT-loop
+μ-loop upper lower d most₀ least₀ longest t₀ most least t = longest + 1 - t
+
+sub-longest : tie.Need-sub-longest Inv-loop μ-loop
+sub-longest c = search needs
+
+loop-holds : tie.Need-loop-holds Inv-loop μ-loop
+unfolding fold
+loop-holds c = (omega arith, omega arith, refl, refl)
+
+difference-at-requires : tie.Need-difference-at-requires Inv-loop μ-loop
+difference-at-requires c κs = search needs
+
+smaller-requires : tie.Need-smaller-requires Inv-loop μ-loop
+smaller-requires c κs = search needs
+
+difference-at-requires-2 : tie.Need-difference-at-requires-2 Inv-loop μ-loop
+difference-at-requires-2 c κs = search needs
+
+larger-requires : tie.Need-larger-requires Inv-loop μ-loop
+larger-requires c κs = search needs
+
+add-t : tie.Need-add-t Inv-loop μ-loop
+add-t c = search needs
+
+loop-less : tie.Need-loop-less Inv-loop μ-loop
+loop-less c = search needs
+
+loop-again : tie.Need-loop-again Inv-loop μ-loop
+loop-again c =
+    let inv = c .before .before .before .before .before .loop .inv in (
+      omega arith,
+      omega arith,
+      best-turn min _ _ _ _ _ _ (inv .0) (inv .2) (c .before .before .before .difference-at .ensures) (c .before .before .smaller .ensures),
+      best-turn max _ _ _ _ _ _ (inv .0) (inv .3) (c .before .difference-at2 .ensures) (c .larger .ensures),
+    )
+
+returns : tie.Need-returns Inv-loop μ-loop
+returns c =
+    let args = c .before .before .before .before .args in
+    let us = args .upper .now in
+    let ls = args .lower .now in
+    let inv = c .before .loop .inv in (
+      inv .2 ∙ ap (differences min (args .from .upper) us ls (args .d)) (omega arith),
+      inv .3 ∙ ap (differences max (args .from .lower) ls us (args .d)) (omega arith),
+    )
+
+pub with-differences-spec : {M : Type 1} → statement M
+with-differences-spec =
+    tie.close
+    (tie.spec
+    Inv-loop
+    μ-loop
+    sub-longest
+    loop-holds
+    difference-at-requires
+    smaller-requires
+    difference-at-requires-2
+    larger-requires
+    add-t
+    loop-less
+    loop-again
+    returns)

@@ -1,0 +1,81 @@
+-- `closure::rounds::with_sums` meets its contract: before a turn the best of the cuts before a is held.
+-- Assumes nothing.
+use Prim.Native.Nat.{_-_, _≤_, min, max}
+use mathlib.Core.Path.{_≡_, ap, _∙_}
+use native.Mathlib.Omega.{arith}
+use borrow.Author.Needs.{needs}
+use Rattle.laws.specs.Ranges.{fold}
+use Rattle.closure.specs.Steps.{sums}
+use Rattle.closure.proofs.Laws.{best-turn}
+use Rattle.closure.proofs.rounds.with_sums.Statement.{statement}
+use Rattle.closure.proofs.rounds.with_sums.Tie as tie
+
+abbrev Inv-loop : tie.InvT-loop
+Inv-loop upper lower d most₀ least₀ a₀ most least a =
+    (1 ≤ a) × (a ≤ d) × (most ≡ sums min upper d (a - 1)) × (least ≡ sums max lower d (a - 1))
+
+abbrev μ-loop : tie.MeasureT-loop
+μ-loop upper lower d most₀ least₀ a₀ most least a = d - a
+
+at-requires : tie.Need-at-requires Inv-loop μ-loop
+at-requires c κs = search needs
+
+at-requires-2 : tie.Need-at-requires-2 Inv-loop μ-loop
+at-requires-2 c κs = search needs
+
+loop-holds : tie.Need-loop-holds Inv-loop μ-loop
+unfolding fold
+loop-holds c = (omega arith, omega arith, c .before .at .ensures, c .at2 .ensures)
+
+sum-at-requires : tie.Need-sum-at-requires Inv-loop μ-loop
+sum-at-requires c κs = search needs
+
+smaller-requires : tie.Need-smaller-requires Inv-loop μ-loop
+smaller-requires c κs = search needs
+
+sum-at-requires-2 : tie.Need-sum-at-requires-2 Inv-loop μ-loop
+sum-at-requires-2 c κs = search needs
+
+larger-requires : tie.Need-larger-requires Inv-loop μ-loop
+larger-requires c κs = search needs
+
+add-a : tie.Need-add-a Inv-loop μ-loop
+add-a c = search needs
+
+loop-less : tie.Need-loop-less Inv-loop μ-loop
+loop-less c = search needs
+
+loop-again : tie.Need-loop-again Inv-loop μ-loop
+loop-again c =
+    let inv = c .before .before .before .before .before .loop .inv in (
+      omega arith,
+      omega arith,
+      best-turn min _ _ _ _ _ _ (inv .0) (inv .2) (c .before .before .before .sum-at .ensures) (c .before .before .smaller .ensures),
+      best-turn max _ _ _ _ _ _ (inv .0) (inv .3) (c .before .sum-at2 .ensures) (c .larger .ensures),
+    )
+
+returns : tie.Need-returns Inv-loop μ-loop
+returns c =
+    let args = c .before .before .before .before .before .before .args in
+    let inv = c .before .loop .inv in (
+      inv .2 ∙ ap (sums min (args .upper .now) (args .d)) (omega arith),
+      inv .3 ∙ ap (sums max (args .lower .now) (args .d)) (omega arith),
+    )
+
+pub with-sums-spec : {M : Type 1} → statement M
+with-sums-spec =
+    tie.close
+    (tie.spec
+    Inv-loop
+    μ-loop
+    at-requires
+    at-requires-2
+    loop-holds
+    sum-at-requires
+    smaller-requires
+    sum-at-requires-2
+    larger-requires
+    add-a
+    loop-less
+    loop-again
+    returns)

@@ -1,0 +1,94 @@
+-- Closing (document 01, "The closure" and questions 1 to 5): two lists in, two lists lent for results.
+use Prim.Native.Nat.{ℕ, _≤_}
+use mathlib.Core.Path.{_≡_}
+use mathlib.Core.List.{List, [], _∷_, _++_}
+use mathlib.Core.Logic.{⊎-elim, Dec·and}
+use native.Mathlib.Decide.{decLe, ℕ-discrete}
+use lib.ListN.{length, drop}
+use Rattle.laws.specs.Ranges.{table}
+use Rattle.laws.proofs.Search.{every?}
+use Rattle.curves.specs.Pairs.{Pair, horizon, ceiling, least}
+use Rattle.curves.specs.Questions.{Question, AllYes, ask}
+use Rattle.curves.specs.Theorems.{Closes}
+use Rattle.curves.proofs.Arrival.{closes?}
+
+-- The longest horizon, and the largest figure, "which is 256 × 65,535".
+abbrev pub maxHorizon : ℕ
+maxHorizon = 256
+
+abbrev pub figureLimit : ℕ
+figureLimit = 16_776_960
+
+-- 1. "Is the ceiling list 1 to 256 long?"
+abbrev pub question1 : Pair → Question
+question1 p =
+    record
+      { number = 1
+      ; asked = (1 ≤ horizon p) × (horizon p ≤ maxHorizon)
+      ; answered = Dec·and (decLe 1 (horizon p)) (decLe (horizon p) maxHorizon)
+      }
+
+-- 2. "Is the least list of that length?"
+abbrev pub question2 : Pair → Question
+question2 p = record { number = 2; asked = length (p .lower) ≡ horizon p; answered = ℕ-discrete (length (p .lower)) (horizon p) }
+
+-- 3. "Is each result list at least H long?" The result lists are as found.
+abbrev pub question3 : Pair → Pair → Question
+question3 p found =
+    record
+      { number = 3
+      ; asked = (horizon p ≤ length (found .upper)) × (horizon p ≤ length (found .lower))
+      ; answered = Dec·and (decLe (horizon p) (length (found .upper))) (decLe (horizon p) (length (found .lower)))
+      }
+
+-- 4. "Is every figure at most 16,776,960?"
+abbrev pub WithinLimit : Pair → ℕ → Type 0
+WithinLimit p d = (ceiling p d ≤ figureLimit) × (least p d ≤ figureLimit)
+
+abbrev pub question4 : Pair → Question
+question4 p =
+    record
+      { number = 4
+      ; asked = (d : ℕ) → 1 ≤ d → d ≤ horizon p → WithinLimit p d
+      ; answered = every? (WithinLimit p) (horizon p) (λ d. Dec·and (decLe (ceiling p d) figureLimit) (decLe (least p d) figureLimit))
+      }
+
+-- 5. "Do the rounds end with a closure?" They do or they do not: theorem 1.
+abbrev pub question5 : Pair → Question
+question5 p = record { number = 5; asked = Closes p; answered = closes? p }
+
+abbrev pub questions : Pair → Pair → List Question
+questions p found = question1 p ∷ question2 p ∷ question3 p found ∷ question4 p ∷ question5 p ∷ []
+
+-- What closing answers, with the two result lists as it leaves them.
+pub record Answer : Type 0 where
+  -- The number of the refusal; 0 where there is none.
+  pub number : ℕ
+  -- The count of rounds that changed a figure.
+  pub rounds : ℕ
+  pub results : Pair
+
+-- "A refusal gives its number with every other field 0, leaves result lists as found."
+abbrev pub refused : ℕ → Pair → Answer
+refused n found = record { number = n; rounds = 0; results = found }
+
+-- The closure q in entries 0 to H − 1; "entries past H are unchanged".
+abbrev pub closed : ℕ → Pair → Pair → Answer
+closed n q found =
+    record
+      { number = 0
+      ; rounds = n
+      ; results =
+          record
+            { upper = table (ceiling q) (horizon q) ++ drop (horizon q) (found .upper)
+            ; lower = table (least q) (horizon q) ++ drop (horizon q) (found .lower)
+            }
+      }
+
+-- Closing the pair p: the first question that is answered no gives its number, else the answer to question 5 the closure.
+unfoldable pub closing : Pair → Pair → Answer
+closing p found =
+    ⊎-elim
+    (λ yeses. let closure : Closes p = yeses .1 .1 .1 .1 .0 in closed (closure .0) (closure .1) found)
+    (λ refusal. refused (refusal .0) found)
+    (ask (questions p found))

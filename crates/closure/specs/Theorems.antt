@@ -1,0 +1,94 @@
+-- What is proved of closing, from what `closing` says alone: so it holds of any code that keeps `close`'s promise.
+use Prim.Native.Nat.{ℕ, _≤_}
+use mathlib.Core.Path.{_≡_}
+use mathlib.Core.List.{List, [], _∷_}
+use mathlib.Core.Logic.{_↔_, _⊎_}
+use lib.ListN.{length, take}
+use Rattle.curves.specs.Streams.{Stream, Begins, sum}
+use Rattle.curves.specs.Pairs.{Pair, horizon, ceiling, least, Equal}
+use Rattle.curves.specs.Conformance.{Conforms, Conforms∞, MetIn}
+use Rattle.curves.specs.Rounds.{whole, Arrives, Causal}
+use Rattle.curves.specs.Questions.{AllYes, FirstNo}
+use Rattle.closure.specs.Closing.{question1, question2, question3, question4, questions, refused, closed, closing}
+
+-- Closing the pair p into result lists found to hold `found` gives a closure: the first H entries of what it leaves there.
+abbrev pub Closed : Pair → Pair → Type 0
+Closed p found = closing p found .number ≡ 0
+
+abbrev pub closureOf : Pair → Pair → Pair
+closureOf p found =
+    record
+      { upper = take (horizon p) (closing p found .results .upper)
+      ; lower = take (horizon p) (closing p found .results .lower)
+      }
+
+-- The lists pass questions 1 to 4.
+abbrev pub Passes : Pair → Pair → Type 0
+Passes p found = AllYes (question1 p ∷ question2 p ∷ question3 p found ∷ question4 p ∷ [])
+
+-- No unbounded stream conforms to p.
+abbrev pub NoStream : Pair → Type 0
+NoStream p = (s : Stream) → Conforms∞ p (s .counts) → ⊥
+
+-- ---- 1. Demand 2: "The closure is what document 01's rounds arrive at", and the rounds are counted.
+abbrev pub ClosureIsArrivedAt : Type 0
+ClosureIsArrivedAt =
+    (p found : Pair) → Closed p found
+    → Arrives whole p (closing p found .rounds) (closureOf p found) × (closing p found ≡ closed (closing p found .rounds) (closureOf p found) found)
+
+-- ---- 4. Demand 3: "closing is refused exactly when no unbounded stream conforms, and then with 5; else it gives the closure".
+abbrev pub RefusedIffNoStream : Type 0
+RefusedIffNoStream = (p found : Pair) → Passes p found → (closing p found ≡ refused 5 found) ↔ NoStream p
+
+abbrev pub ElseClosed : Type 0
+ElseClosed = (p found : Pair) → Passes p found → (closing p found ≡ refused 5 found) ⊎ Closed p found
+
+-- Demand 1: refused with n exactly when question n is the first that is answered no.
+abbrev pub RefusedIffFirstNo : Type 0
+RefusedIffFirstNo = (p found : Pair) (n : ℕ) → ((1 ≤ n) × (closing p found ≡ refused n found)) ↔ FirstNo (questions p found) n
+
+-- ---- 5. One conforming stream has, for every window of d ticks, the closure's ceiling of d in its first d ticks; another has the leasts.
+abbrev pub FollowsCeilings : Type 0
+FollowsCeilings =
+    (p found : Pair) → Closed p found
+    → (s : Stream) × Conforms∞ p (s .counts) × ((d : ℕ) → d ≤ horizon p → sum (s .counts) 0 d ≡ ceiling (closureOf p found) d)
+
+abbrev pub FollowsLeasts : Type 0
+FollowsLeasts =
+    (p found : Pair) → Closed p found
+    → (s : Stream) × Conforms∞ p (s .counts) × ((d : ℕ) → d ≤ horizon p → sum (s .counts) 0 d ≡ least (closureOf p found) d)
+
+-- Demand 3: "each of its figures is met in a window of some such stream".
+abbrev pub MetBySome : Pair → ℕ → ℕ → Type 0
+MetBySome p d x = (s : Stream) × Conforms∞ p (s .counts) × MetIn (s .counts) d x
+
+abbrev pub FiguresMet : Type 0
+FiguresMet =
+    (p found : Pair) → Closed p found → (d : ℕ) → 1 ≤ d → d ≤ horizon p
+    → MetBySome p d (ceiling (closureOf p found) d) × MetBySome p d (least (closureOf p found) d)
+
+-- ---- 6. Demand 3: "a finite stream conforms to it exactly when it begins an unbounded stream conforming to the pair".
+abbrev pub ConformsIffBegins : Type 0
+ConformsIffBegins =
+    (p found : Pair) → Closed p found → (xs : List ℕ)
+    → Conforms (closureOf p found) xs ↔ ((s : Stream) × Begins xs (s .counts) × Conforms∞ p (s .counts))
+
+-- ---- 7. Demand 3: "Two closures given for pairs with one horizon are equal exactly when the same unbounded streams conform to both pairs."
+abbrev pub EqualIffSameStreams : Type 0
+EqualIffSameStreams =
+    (p found p′ found′ : Pair) → Closed p found → Closed p′ found′ → horizon p ≡ horizon p′
+    → Equal (closureOf p found) (closureOf p′ found′) ↔ ((s : Stream) → Conforms∞ p (s .counts) ↔ Conforms∞ p′ (s .counts))
+
+-- ---- 8. A closure is causal, passes questions 1, 2 and 4, and closing it gives it back after 0 rounds.
+abbrev pub GivenIsCausal : Type 0
+GivenIsCausal = (p found : Pair) → Closed p found → Causal (closureOf p found)
+
+abbrev pub GivenPasses : Type 0
+GivenPasses =
+    (p found : Pair) → Closed p found
+    → AllYes (question1 (closureOf p found) ∷ question2 (closureOf p found) ∷ question4 (closureOf p found) ∷ [])
+
+abbrev pub ClosedAgain : Type 0
+ClosedAgain =
+    (p found again : Pair) → Closed p found → horizon p ≤ length (again .upper) → horizon p ≤ length (again .lower)
+    → closing (closureOf p found) again ≡ closed 0 (closureOf p found) again

@@ -1,0 +1,129 @@
+-- What a closure is worth, for a pair p whose rounds arrive at q: q is causal, has the streams of p, and its conforming starts are theirs.
+-- Assumes nothing.
+use Prim.Native.Nat.{ℕ, zero, suc, _+_, _≤_, _<_}
+use mathlib.Core.Path.{_≡_, refl, sym, ap, _∙_, subst}
+use mathlib.Core.List.{List, [], _∷_, _++_}
+use mathlib.Core.Logic.{_↔_, _⊎_, Iff·trans, Iff·symm}
+use native.Mathlib.Nat.{le-refl}
+use native.Mathlib.Omega.{arith}
+use lib.IntN.{ℤ, pos}
+use lib.ListN.{length, getD}
+use lib.Seq.{ext-getD}
+use Rattle.laws.proofs.Table.{length-table}
+use Rattle.curves.specs.Streams.{sum, Begins}
+use Rattle.curves.specs.Pairs.{Curves, horizon, figure, Same, Pair, ceiling, least, Equal}
+use Rattle.curves.specs.Conformance.{Inside, Conforms, Conforms∞}
+use Rattle.curves.specs.Rounds.{Arithmetic, whole, given, round, after, Crossed, Settled, Arrives, Causal}
+use Rattle.curves.specs.Theorems.{RoundsKeepStreams, CrossedHasNoStream, CutOffArrives, CutOffCrosses, ClosureIsCausal, CausalIffOwnClosure, CausalTakesNoRound, OneMoreTick}
+use Rattle.curves.proofs.Figures.{given-same, given-horizon, after-horizon}
+use Rattle.curves.proofs.Kept.{rounds-keep, crossed-none}
+use Rattle.curves.proofs.Agreement.{arrives-agree, crosses-agree, same-refl}
+use Rattle.curves.proofs.Arrival.{runs-none}
+use Rattle.curves.proofs.Closed.{Closed, closed}
+use Rattle.curves.proofs.Extension.{extends, start-conforms}
+use Rattle.curves.proofs.Followed.{Follows, follows-upper, follows-lower}
+use Rattle.curves.proofs.NextTick.{lo, hi, keeps-conforms, conforms-keeps, keeps-range, lo-hi}
+
+pub rounds-keep-streams : RoundsKeepStreams
+rounds-keep-streams = rounds-keep
+
+pub crossed-has-no-stream : CrossedHasNoStream
+crossed-has-no-stream = crossed-none
+
+pub cut-off-arrives : CutOffArrives
+cut-off-arrives = arrives-agree
+
+pub cut-off-crosses : CutOffCrosses
+cut-off-crosses = crosses-agree
+
+-- ---- curves whose lists are both as long as the horizon are equal where their figures are
+same-lists : {N : Type 0} (z : N) (us vs : List N) → length us ≡ length vs → ((d : ℕ) → 1 ≤ d → d ≤ length us → figure z us d ≡ figure z vs d) → us ≡ vs
+unfolding figure
+same-lists z us vs e h = ext-getD z us vs e (λ i l. h (suc i) (omega arith) l)
+
+full-same : {N : Type 0} (z : N) (c e : Curves N) → length (c .lower) ≡ horizon c → length (e .lower) ≡ horizon e → Same z c e → c ≡ e
+full-same z c e f f′ s =
+    λ i.
+      record
+        { upper = same-lists z (c .upper) (e .upper) (s .horizons) (s .uppers) i
+        ; lower = same-lists z (c .lower) (e .lower) (f ∙ s .horizons ∙ sym f′) (λ d u v. s .lowers d u (rw (sym f) v)) i
+        }
+
+pub given-full : (A : Arithmetic) (p : Pair) → length (given A p .lower) ≡ horizon (given A p)
+unfolding given
+given-full A p = length-table _ (horizon p) ∙ sym (length-table _ (horizon p))
+
+after-full : (A : Arithmetic) (n : ℕ) (p : Pair) → length (after A n p .lower) ≡ horizon (after A n p)
+unfolding after round
+after-full A zero p = given-full A p
+after-full A (suc n) p = length-table _ (horizon (after A n p)) ∙ sym (length-table _ (horizon (after A n p)))
+
+-- ---- the closure is causal
+pub closure-is-causal : ClosureIsCausal
+closure-is-causal p q n a =
+    let e : after whole n p ≡ given whole q = full-same (pos 0) (after whole n p) (given whole q) (after-full whole n p) (given-full whole q) (a .figures) in
+    record { uncrossed = rw e at (a .uncrossed); settled = rw e at (a .settled) }
+
+pub causal-takes-no-round : CausalTakesNoRound
+unfolding after
+causal-takes-no-round p c =
+    record { runs = runs-none whole p; uncrossed = c .uncrossed; settled = c .settled; figures = same-refl (pos 0) (given whole p) }
+
+pub causal-iff-own-closure : CausalIffOwnClosure
+causal-iff-own-closure p = ((λ c. (0, causal-takes-no-round p c)), (λ a. closure-is-causal p p (a .0) (a .1)))
+
+-- ---- one more tick
+pub one-more-tick : OneMoreTick
+one-more-tick p xs h c k =
+    let C : Closed p = closed p c in
+    ( lo p xs
+    , hi p xs
+    , lo-hi p C xs k h
+    , λ x.
+      ( (λ m. keeps-range p C xs k x h .0 (conforms-keeps p xs x m))
+      , (λ r. keeps-conforms p xs x k (keeps-range p C xs k x h .1 r))))
+
+-- ---- the closure q of p, after n rounds
+module _ (p q : Pair) (n : ℕ) (a : Arrives whole p n q) where
+  closure-closed : Closed q
+  closure-closed = closed q (closure-is-causal p q n a)
+
+  pub closure-horizon : horizon q ≡ horizon p
+  closure-horizon = sym (given-horizon whole q) ∙ sym (a .figures .horizons) ∙ after-horizon whole n p
+
+  -- The same unbounded streams conform to both.
+  pub closure-streams : (s : ℕ → ℕ) → Conforms∞ p s ↔ Conforms∞ q s
+  closure-streams = rounds-keep p q n (a .figures)
+
+  module _ (h : 1 ≤ horizon p) where
+    h′ : 1 ≤ horizon q
+    h′ = rw closure-horizon h
+
+    pub closure-begins : (xs : List ℕ) → Conforms q xs → (s : ℕ → ℕ) × Begins xs s × Conforms∞ p s
+    closure-begins xs c =
+        let (s, b, k) = extends q closure-closed h′ xs c in
+        (s, b, closure-streams s .1 k)
+
+    pub begins-closure : (xs : List ℕ) (s : ℕ → ℕ) → Begins xs s → Conforms∞ p s → Conforms q xs
+    begins-closure xs s b c = start-conforms q xs s b (closure-streams s .0 c)
+
+    follow : (g : ℕ → ℕ) → Follows q g → (s : ℕ → ℕ) × Conforms∞ p s × ((d : ℕ) → d ≤ horizon p → sum s 0 d ≡ g d)
+    follow g f = (f .0, closure-streams (f .0) .1 (f .1), λ d v. f .2 d (rw closure-horizon v))
+
+    pub closure-upper : (s : ℕ → ℕ) × Conforms∞ p s × ((d : ℕ) → d ≤ horizon p → sum s 0 d ≡ ceiling q d)
+    closure-upper = follow (ceiling q) (follows-upper q closure-closed h′)
+
+    pub closure-lower : (s : ℕ → ℕ) × Conforms∞ p s × ((d : ℕ) → d ≤ horizon p → sum s 0 d ≡ least q d)
+    closure-lower = follow (least q) (follows-lower q closure-closed h′)
+
+-- Arrived at a closure, so at any equal one.
+pub arrives-equal : (p q r : Pair) (n : ℕ) → Arrives whole p n q → Equal q r → Arrives whole p n r
+arrives-equal p q r n a e =
+    record { runs = a .runs; uncrossed = a .uncrossed; settled = a .settled; figures = rw (given-same whole q r e) at (a .figures) }
+
+-- No figure of the closure is above the pair's ceiling: a conforming stream meets the closure's.
+pub closure-figures : (p q : Pair) (n : ℕ) → Arrives whole p n q → (d : ℕ) → 1 ≤ d → d ≤ horizon p → (ceiling q d ≤ ceiling p d) × (least q d ≤ ceiling p d)
+closure-figures p q n a d u v =
+    let (s, c, f) = closure-upper p q n a (omega arith) in
+    let (t, k, g) = closure-lower p q n a (omega arith) in
+    omega (arith, c 0 d u v, f d v, k 0 d u v, g d v)

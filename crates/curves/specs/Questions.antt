@@ -1,0 +1,30 @@
+-- Questions asked in order (document 01, "The questions, in order"), for every operation alike.
+use Prim.Native.Nat.{ℕ}
+use mathlib.Core.Path.{_≡_, refl}
+use mathlib.Core.List.{List, [], _∷_}
+use mathlib.Core.Logic.{_⊎_, inl, inr, ⊎-map}
+
+-- A question: the number that a "no" gives, what is asked, and the answer, which is its own proof.
+pub record Question : Type 1 where
+  pub number : ℕ
+  pub asked : Type 0
+  pub answered : Dec asked
+
+-- Every question is answered yes.
+abbrev pub AllYes : List Question → Type 0
+AllYes [] = Unit {0}
+AllYes (q ∷ qs) = (q .asked) × AllYes qs
+
+-- Question n is the first that is answered no.
+abbrev pub FirstNo : List Question → ℕ → Type 0
+FirstNo [] n = ⊥
+FirstNo (q ∷ qs) n = ((n ≡ q .number) × (¬ q .asked)) ⊎ ((q .asked) × FirstNo qs n)
+
+-- The questions put one after the other.
+unfoldable pub ask : (qs : List Question) → AllYes qs ⊎ ((n : ℕ) × FirstNo qs n)
+ask [] = inl tt
+ask (q ∷ qs) =
+    elim (q .answered)
+    [ yes y ↦ ⊎-map (λ ys. (y, ys)) (λ f. (f .0, inr (y, f .1))) (ask qs)
+    | no n ↦ inr (q .number, inl (refl, n))
+    ]
