@@ -21,7 +21,7 @@ use Rattle.curves.proofs.Arrival.{arrives-or-crosses, arrives-once}
 use Rattle.curves.proofs.Closure.{arrives-equal, closure-horizon, closure-streams, closure-begins, begins-closure, closure-upper, closure-lower, closure-figures, closure-is-causal, causal-takes-no-round, crossed-has-no-stream, given-full}
 use Rattle.closure.specs.Closing.{Answer, question1, question2, question3, question4, question5, questions, refused, closed, closing}
 use Rattle.closure.specs.Theorems.{Closed, closureOf, Passes, NoStream, ClosureIsArrivedAt, RefusedIffNoStream, ElseClosed, RefusedIffFirstNo, FollowsCeilings, FollowsLeasts, MetBySome, FiguresMet, ConformsIffBegins, EqualIffSameStreams, GivenIsCausal, GivenPasses, ClosedAgain}
-use Rattle.closure.proofs.Said.{refused-is, closed-is, closed-equal}
+use Rattle.closure.proofs.Said.{refused-is, closed-is, closed-equal, fifth}
 
 -- ---- a question that is answered no has a number of at least 1
 Positive : List Question → Type 0
@@ -70,10 +70,10 @@ module _ (p found : Pair) (c : Closed p found) where
   unfolding given
   closure-is =
       λ i.
-        record
-          { upper = (ap (λ a. take (horizon p) (a .results .upper)) said ∙ take-at (table (ceiling q) (horizon q)) _ (horizon p) (long (ceiling q))) i
-          ; lower = (ap (λ a. take (horizon p) (a .results .lower)) said ∙ take-at (table (least q) (horizon q)) _ (horizon p) (long (least q))) i
-          }
+      record {
+        upper = (ap (λ a. take (horizon p) (a .results .upper)) said ∙ take-at (table (ceiling q) (horizon q)) _ (horizon p) (long (ceiling q))) i;
+        lower = (ap (λ a. take (horizon p) (a .results .lower)) said ∙ take-at (table (least q) (horizon q)) _ (horizon p) (long (least q))) i;
+      }
     where
       long : (f : ℕ → ℕ) → length (table f (horizon q)) ≡ horizon p
       long f = length-table f (horizon q) ∙ closure-horizon p q n at-q
@@ -103,10 +103,10 @@ single s i = omega (arith, ap s (add-zero i))
 
 abbrev streamOf : (p found : Pair) → Passes p found → (s : ℕ → ℕ) → Conforms∞ p s → Stream
 streamOf p found ok s c =
-    record
-      { counts = s
-      ; within = λ i. omega (arith, single s i, c i 1 (omega arith) (ok .0 .0), ok .1 .1 .1 .0 1 (omega arith) (ok .0 .0))
-      }
+    record {
+      counts = s;
+      within = λ i. omega (arith, single s i, c i 1 (omega arith) (ok .0 .0), ok .1 .1 .1 .0 1 (omega arith) (ok .0 .0));
+    }
 
 -- ---- 4
 pub refused-iff-first-no : RefusedIffFirstNo
@@ -119,9 +119,6 @@ refused-iff-first-no p found n = (there, λ f. (number-positive p found n f, ref
         (λ y. absurd (omega (arith, h .0, ap (λ a. a .number) (closed-is p found (y .1 .0) (y .1 .1) (y .0) (y .1 .2)), ap (λ a. a .number) (h .1))))
         (cases p found)
 
-fifth : (p found : Pair) → Passes p found → ¬ Closes p → FirstNo (questions p found) 5
-fifth p found ok h = inr (ok .0, inr (ok .1 .0, inr (ok .1 .1 .0, inr (ok .1 .1 .1 .0, inl (refl, h)))))
-
 pub refused-iff-no-stream : RefusedIffNoStream
 refused-iff-no-stream p found ok = (there, back)
   where
@@ -131,10 +128,12 @@ refused-iff-no-stream p found ok = (there, back)
         (λ a. omega (arith, ap (λ r. r .number) (closed-is p found (a .0) (a .1) ok (a .2)), ap (λ r. r .number) e))
         (λ x. crossed-has-no-stream p (x .0) (x .1 .crossed) (s .counts) c)
         (arrives-or-crosses p)
+
     some : Closes p → (s : Stream) × Conforms∞ p (s .counts)
     some a =
         let (s, b, c) = closure-begins p (a .1) (a .0) (a .2) (ok .0 .0) [] (λ i d u v w. absurd (omega arith)) in
         (streamOf p found ok s c, c)
+
     back : NoStream p → closing p found ≡ refused 5 found
     back none = refused-is p found 5 (fifth p found ok (λ a. none (some a .0) (some a .1)))
 
@@ -177,6 +176,7 @@ conforms-iff-begins p found c xs = (there, back)
     there k =
         let (s, b, l) = closure-begins p (closureOf p found) _ (arrived p found c) (horizon-positive p found c) xs k in
         (streamOf p found (passes p found c .0) s l, b, l)
+
     back : (s : Stream) × Begins xs (s .counts) × Conforms∞ p (s .counts) → Conforms (closureOf p found) xs
     back s = begins-closure p (closureOf p found) _ (arrived p found c) (horizon-positive p found c) xs (s .0 .counts) (s .1) (s .2)
 
@@ -203,35 +203,46 @@ equal-iff-same-streams p found p′ found′ c c′ h = (there, back)
         Iff·trans
         (closure-streams p (closureOf p found) _ (arrived p found c) (s .counts))
         (Iff·symm (closure-streams p′ (closureOf p found) _ (arrives-equal p′ (closureOf p′ found′) (closureOf p found) _ (arrived p′ found′ c′) (same-sym 0 _ _ e)) (s .counts)))
+
     back : ((s : Stream) → Conforms∞ p (s .counts) ↔ Conforms∞ p′ (s .counts)) → Equal (closureOf p found) (closureOf p′ found′)
     back same = record { horizons = is ∙ h ∙ sym is′; uppers = λ d u v. both d u (rw (sym is) v) .0; lowers = λ d u v. both d u (rw (sym is) v) .1 }
       where
         is : horizon (closureOf p found) ≡ horizon p
         is = closure-horizon p (closureOf p found) _ (arrived p found c)
+
         is′ : horizon (closureOf p′ found′) ≡ horizon p′
         is′ = closure-horizon p′ (closureOf p′ found′) _ (arrived p′ found′ c′)
+
         both : (d : ℕ) → 1 ≤ d → d ≤ horizon p → (ceiling (closureOf p found) d ≡ ceiling (closureOf p′ found′) d) × (least (closureOf p found) d ≡ least (closureOf p′ found′) d)
         both d u v =
-            omega
-            ( arith
-            , no-looser p found p′ found′ c c′ h (λ s. same s .0) d u v
-            , no-looser p′ found′ p found c′ c (sym h) (λ s. same s .1) d u (omega arith))
+            omega (
+              arith,
+              no-looser p found p′ found′ c c′ h (λ s. same s .0) d u v,
+              no-looser p′ found′ p found c′ c (sym h) (λ s. same s .1) d u (omega arith),
+            )
 
 -- ---- 8
 pub given-is-causal : GivenIsCausal
 given-is-causal p found c = closure-is-causal p (closureOf p found) _ (arrived p found c)
 
 pub given-passes : GivenPasses
-given-passes p found c =
-    ( (rw is (ok .0 .0), rw is (ok .0 .1))
-    , ( lowers
-    , ( (λ d u v. omega (arith, closure-figures p (closureOf p found) _ (arrived p found c) d u (omega (arith, is)), ok .1 .1 .1 .0 d u (omega (arith, is))))
-    , tt)))
+given-passes p found c = (
+  (rw is (ok .0 .0), rw is (ok .0 .1)),
+  (
+    lowers,
+    (
+      (λ d u v. omega (arith, closure-figures p (closureOf p found) _ (arrived p found c) d u (omega (arith, is)), ok .1 .1 .1 .0 d u (omega (arith, is)))),
+      tt,
+    ),
+  ),
+)
   where
     ok : Passes p found
     ok = passes p found c .0
+
     is : horizon (closureOf p found) ≡ horizon p
     is = closure-horizon p (closureOf p found) _ (arrived p found c)
+
     lowers : length (closureOf p found .lower) ≡ horizon (closureOf p found)
     lowers =
         subst⁻¹ (λ (r : Pair). length (r .lower) ≡ horizon r) (closure-is p found c) (given-full cutOff (q p found c))

@@ -1,19 +1,22 @@
 -- Laws over plain variables that the proofs of this crate's functions cite.
 -- Assumes nothing.
 use Prim.Native.Nat.{ℕ, zero, suc, _+_, _-_, _≤_, _<_}
-use mathlib.Core.Path.{_≡_, refl, ap, _∙_, subst}
+use mathlib.Core.Path.{_≡_, refl, sym, ap, _∙_, subst, subst⁻¹, subst₂}
 use mathlib.Core.Bool.{Bool, true, false}
 use mathlib.Core.List.{List, _++_}
 use native.Mathlib.Decide.{decLe}
 use native.Mathlib.Numerals.{add-one}
 use native.Mathlib.Omega.{arith}
-use lib.ListN.{length, getD, set, drop, length-set, List·getD-eq-default}
+use lib.ListN.{length, getD, set, take, drop, length-set, List·getD-eq-default}
+use lib.Seq.{length-take-le}
 use Rattle.laws.specs.Ranges.{fold, table}
 use Rattle.laws.proofs.Best.{fold-turn}
 use Rattle.laws.proofs.Table.{fill-turn, fill-done, table-self}
-use Rattle.curves.specs.Pairs.{figure}
-use Rattle.curves.specs.Rounds.{cutOff, newFigure, round, Crossed}
-use Rattle.closure.specs.Steps.{pairOf, Bounded, Tells, sums, differences, Advanced}
+use Rattle.curves.specs.Pairs.{Pair, figure}
+use Rattle.curves.specs.Rounds.{cutOff, newFigure, round, Crossed, Arrives, Crosses}
+use Rattle.closure.specs.Steps.{pairOf, Bounded, Either, Tells, sums, differences, Advanced, Ended, Delivered, EndedWith}
+use Rattle.closure.specs.declared.rounds.Ending.{Ending}
+use Rattle.closure.specs.declared.rounds.Ending.the-variants.{Arrived}
 
 -- A figure by its index.
 pub figure-next : (us : List ℕ) (i : ℕ) → getD us i 0 ≡ figure 0 us (i + 1)
@@ -100,3 +103,34 @@ advanced us ls nus nls xs ys b u l t p q =
       figures = λ i. record { upper = (p ∙ u) i; lower = (q ∙ l) i };
       told = rw (p, q) t;
     }
+
+-- What an ending that is known tells.
+pub delivered : (e : Ending) (n : ℕ) (held found left : Pair) → e ≡ Arrived n → left ≡ held → Delivered e held found left
+delivered e n held found left k s = rw k s
+
+pub undelivered : (e : Ending) (held found left : Pair) → e ≡ Ending.Crossed → left ≡ found → Delivered e held found left
+undelivered e held found left k s = rw k s
+
+-- The rounds of p ended with the pair held, which is then delivered.
+pub ended-with
+    : (p p′ held found left : Pair) (e : Ending) → p′ ≡ p → Ended p′ e held → Delivered e held found left → EndedWith p e found left
+ended-with p p′ held found left (Arrived n) k r d = subst₂ (λ (a b : Pair). Arrives cutOff a n b) k (sym d) r
+ended-with p p′ held found left Ending.Crossed k r d = (subst (λ (a : Pair). (n : ℕ) × Crosses cutOff a n) k r, d)
+
+pub same-pairs : (us ls xs ys : List ℕ) → us ≡ xs → ls ≡ ys → pairOf us ls ≡ pairOf xs ys
+same-pairs us ls xs ys e f = λ i. record { upper = e i; lower = f i }
+
+-- What `run` asks, of lists that have been copied.
+pub ready : (us xs : List ℕ) → xs ≡ us → (length us ≤ 256) × Bounded us → (length xs ≤ 256) × Bounded xs
+ready us xs e h = subst⁻¹ (λ (ys : List ℕ). (length ys ≤ 256) × Bounded ys) e h
+
+-- A part of an array to compute in is as long as it was asked for.
+pub part-long : (n : ℕ) (xs : List ℕ) → length xs ≡ 256 → n ≤ 256 → n ≡ length (take n xs)
+part-long n xs e h = sym (length-take-le n xs (omega arith))
+
+-- The answer of a test that tells either of two things.
+pub either-true : (P Q : Type 0) (b : Bool) → b ≡ true → Either b P Q → P
+either-true P Q b e t = subst (λ (x : Bool). Either x P Q) e t
+
+pub either-false : (P Q : Type 0) (b : Bool) → b ≡ false → Either b P Q → Q
+either-false P Q b e t = subst (λ (x : Bool). Either x P Q) e t

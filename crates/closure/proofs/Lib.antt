@@ -3,3 +3,4 @@ pub mod Said
 pub mod Given
 mod Laws
 mod Progress
+mod Answered

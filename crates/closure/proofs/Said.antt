@@ -30,15 +30,15 @@ module _ (p found : Pair) where
   pub closed-equal : (m n : ℕ) (q r : Pair) → m ≡ n → Equal q r → closed m q found ≡ closed n r found
   closed-equal m n q r e s =
       λ i.
-        record
-          { number = 0
-          ; rounds = e i
-          ; results =
-              record
-                { upper = table-same (ceiling q) (ceiling r) (horizon q) (horizon r) (s .horizons) (s .uppers) i ++ drop (s .horizons i) (found .upper)
-                ; lower = table-same (least q) (least r) (horizon q) (horizon r) (s .horizons) (s .lowers) i ++ drop (s .horizons i) (found .lower)
-                }
-          }
+      record {
+        number = 0;
+        rounds = e i;
+        results =
+            record {
+              upper = table-same (ceiling q) (ceiling r) (horizon q) (horizon r) (s .horizons) (s .uppers) i ++ drop (s .horizons i) (found .upper);
+              lower = table-same (least q) (least r) (horizon q) (horizon r) (s .horizons) (s .lowers) i ++ drop (s .horizons i) (found .lower);
+            };
+      }
 
   pub closed-is : (n : ℕ) (q : Pair) → Passes p found → Arrives whole p n q → closing p found ≡ closed n q found
   unfolding closing
@@ -46,6 +46,7 @@ module _ (p found : Pair) where
     where
       all : AllYes (questions p found)
       all = (ok .0, (ok .1 .0, (ok .1 .1 .0, (ok .1 .1 .1 .0, ((n, q, a), tt)))))
+
       go : (v : AllYes (questions p found) ⊎ ((m : ℕ) × FirstNo (questions p found) m))
           → ⊎-elim (λ ys. closed (ys .1 .1 .1 .1 .0 .0) (ys .1 .1 .1 .1 .0 .1) found) (λ r. refused (r .0) found) v ≡ closed n q found
       go (inl ys) =
@@ -53,3 +54,7 @@ module _ (p found : Pair) where
           let o = arrives-once p (c .1) q (c .0) n (c .2) a in
           closed-equal (c .0) n (c .1) q (o .0) (o .1)
       go (inr r) = absurd (not-both (questions p found) (r .0) all (r .1))
+
+-- Question 5 is the first that is answered no.
+pub fifth : (p found : Pair) → Passes p found → ¬ Closes p → FirstNo (questions p found) 5
+fifth p found ok h = inr (ok .0, inr (ok .1 .0, inr (ok .1 .1 .0, inr (ok .1 .1 .1 .0, inl (refl, h)))))

@@ -22,11 +22,11 @@ figureLimit = 16_776_960
 -- 1. "Is the ceiling list 1 to 256 long?"
 abbrev pub question1 : Pair → Question
 question1 p =
-    record
-      { number = 1
-      ; asked = (1 ≤ horizon p) × (horizon p ≤ maxHorizon)
-      ; answered = Dec·and (decLe 1 (horizon p)) (decLe (horizon p) maxHorizon)
-      }
+    record {
+      number = 1;
+      asked = (1 ≤ horizon p) × (horizon p ≤ maxHorizon);
+      answered = Dec·and (decLe 1 (horizon p)) (decLe (horizon p) maxHorizon);
+    }
 
 -- 2. "Is the least list of that length?"
 abbrev pub question2 : Pair → Question
@@ -35,11 +35,11 @@ question2 p = record { number = 2; asked = length (p .lower) ≡ horizon p; answ
 -- 3. "Is each result list at least H long?" The result lists are as found.
 abbrev pub question3 : Pair → Pair → Question
 question3 p found =
-    record
-      { number = 3
-      ; asked = (horizon p ≤ length (found .upper)) × (horizon p ≤ length (found .lower))
-      ; answered = Dec·and (decLe (horizon p) (length (found .upper))) (decLe (horizon p) (length (found .lower)))
-      }
+    record {
+      number = 3;
+      asked = (horizon p ≤ length (found .upper)) × (horizon p ≤ length (found .lower));
+      answered = Dec·and (decLe (horizon p) (length (found .upper))) (decLe (horizon p) (length (found .lower)));
+    }
 
 -- 4. "Is every figure at most 16,776,960?"
 abbrev pub WithinLimit : Pair → ℕ → Type 0
@@ -47,11 +47,11 @@ WithinLimit p d = (ceiling p d ≤ figureLimit) × (least p d ≤ figureLimit)
 
 abbrev pub question4 : Pair → Question
 question4 p =
-    record
-      { number = 4
-      ; asked = (d : ℕ) → 1 ≤ d → d ≤ horizon p → WithinLimit p d
-      ; answered = every? (WithinLimit p) (horizon p) (λ d. Dec·and (decLe (ceiling p d) figureLimit) (decLe (least p d) figureLimit))
-      }
+    record {
+      number = 4;
+      asked = (d : ℕ) → 1 ≤ d → d ≤ horizon p → WithinLimit p d;
+      answered = every? (WithinLimit p) (horizon p) (λ d. Dec·and (decLe (ceiling p d) figureLimit) (decLe (least p d) figureLimit));
+    }
 
 -- 5. "Do the rounds end with a closure?" They do or they do not: theorem 1.
 abbrev pub question5 : Pair → Question
@@ -75,15 +75,15 @@ refused n found = record { number = n; rounds = 0; results = found }
 -- The closure q in entries 0 to H − 1; "entries past H are unchanged".
 abbrev pub closed : ℕ → Pair → Pair → Answer
 closed n q found =
-    record
-      { number = 0
-      ; rounds = n
-      ; results =
-          record
-            { upper = table (ceiling q) (horizon q) ++ drop (horizon q) (found .upper)
-            ; lower = table (least q) (horizon q) ++ drop (horizon q) (found .lower)
-            }
-      }
+    record {
+      number = 0;
+      rounds = n;
+      results =
+          record {
+            upper = table (ceiling q) (horizon q) ++ drop (horizon q) (found .upper);
+            lower = table (least q) (horizon q) ++ drop (horizon q) (found .lower);
+          };
+    }
 
 -- Closing the pair p: the first question that is answered no gives its number, else the answer to question 5 the closure.
 unfoldable pub closing : Pair → Pair → Answer

@@ -61,3 +61,13 @@ pub record Advanced (c : Pair) (done : Bool) (next : Pair) : Type 0 where
 abbrev pub Ended : Pair → Ending → Pair → Type 0
 Ended p (Arrived n) q = Arrives cutOff p n q
 Ended p Crossed q = (n : ℕ) × Crosses cutOff p n
+
+-- The held pair is put into the result lists, or these stay as found.
+abbrev pub Delivered : Ending → Pair → Pair → Pair → Type 0
+Delivered (Arrived n) held found left = left ≡ held
+Delivered Crossed held found left = left ≡ found
+
+-- How the rounds of p ended, with the result lists as found and as left.
+abbrev pub EndedWith : Pair → Ending → Pair → Pair → Type 0
+EndedWith p (Arrived n) found left = Arrives cutOff p n left
+EndedWith p Crossed found left = ((n : ℕ) × Crosses cutOff p n) × (left ≡ found)

@@ -17,10 +17,10 @@ Closed p found = closing p found .number ≡ 0
 
 abbrev pub closureOf : Pair → Pair → Pair
 closureOf p found =
-    record
-      { upper = take (horizon p) (closing p found .results .upper)
-      ; lower = take (horizon p) (closing p found .results .lower)
-      }
+    record {
+      upper = take (horizon p) (closing p found .results .upper);
+      lower = take (horizon p) (closing p found .results .lower);
+    }
 
 -- The lists pass questions 1 to 4.
 abbrev pub Passes : Pair → Pair → Type 0

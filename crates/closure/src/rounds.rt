@@ -6,7 +6,7 @@ ghost use Prim.Native.Nat.{_+_, _-_, _≤_, _<_, min, max};
 ghost use lib.ListN.{length};
 ghost use Rattle.curves.specs.Pairs.{figure};
 ghost use Rattle.curves.specs.Rounds.{cutOff, round, Crossed};
-ghost use Rattle.closure.specs.Steps.{pairOf, Bounded, Exceeds, Either, Tells, SameLengths};
+ghost use Rattle.closure.specs.Steps.{pairOf, Bounded, Tells, SameLengths};
 ghost use Rattle.closure.specs.Steps.{sums, differences, newUpper, newLower, Advanced, Ended};
 
 // How the rounds of a pair ended: with a closure, after so many rounds that changed a figure, or with some least above its ceiling.
@@ -35,7 +35,7 @@ fn larger(a: u32, b: u32) -> u32
     if a < b { b } else { a }
 }
 
-// Cut off at 0: a sum of counts is never below it, so a difference that would be negative says no more than 0 does.
+// Cut off at 0. Where the exact difference is negative the round crosses with either (theorem 3), so no answer depends on the sign.
 fn difference(a: u32, b: u32) -> u32
     ensures { λ r. ⌜ r ≡ a - b ⌝ }
 {
@@ -167,7 +167,7 @@ fn same(xs: &[u32], ys: &[u32]) -> bool
 }
 
 // The figures of `from`, put into `to`.
-fn copy(from: &[u32], to: &mut [u32])
+pub fn copy(from: &[u32], to: &mut [u32])
     requires { ⌜ length (now to) ≡ length (now from) ⌝ }
     ensures { λ _. ⌜ now (to .exit) ≡ now (from .entry) ⌝ }
 {
@@ -229,25 +229,4 @@ pub fn run(
         }
         rounds += 1;
     }
-}
-
-// 256 figures to compute with.
-pub fn zeros() -> [u32; 256]
-    ensures { λ r. ⌜ length r ≡ 256 ⌝ }
-{
-    [0u32; 256]
-}
-
-// Whether some figure is above 16,776,960.
-pub fn exceeds(figures: &[u32]) -> bool
-    ensures { λ r. ⌜ Either r (Exceeds (now (figures .entry))) (Bounded (now (figures .entry))) ⌝ }
-{
-    let mut i = 0;
-    while i < figures.len() {
-        if 16_776_960 < figures[i] {
-            return true;
-        }
-        i += 1;
-    }
-    false
 }

@@ -16,11 +16,11 @@ use Rattle.curves.proofs.CutOff.{round-agrees}
 -- A pair's own figures, cut off at 0, are the pair's.
 pub given-equal : (p : Pair) → Equal (given cutOff p) p
 given-equal p =
-    record
-      { horizons = given-horizon cutOff p
-      ; uppers = λ d u v. given-upper cutOff p d u (inner d v)
-      ; lowers = λ d u v. given-lower cutOff p d u (inner d v)
-      }
+    record {
+      horizons = given-horizon cutOff p;
+      uppers = λ d u v. given-upper cutOff p d u (inner d v);
+      lowers = λ d u v. given-lower cutOff p d u (inner d v);
+    }
   where
     inner : (d : ℕ) → d ≤ horizon (given cutOff p) → d ≤ horizon p
     inner d v = rw (sym (given-horizon cutOff p)) v
@@ -33,28 +33,31 @@ crossed-given c = (there, back)
     there x =
         let v : x .window ≤ horizon c = rw (given-horizon whole c) at (x .within) in
         let l : pos (ceiling c (x .window)) <ℤ pos (least c (x .window)) =
-            rw (given-upper whole c (x .window) (x .positive) v, given-lower whole c (x .window) (x .positive) v) at (x .above) in
+        rw (given-upper whole c (x .window) (x .positive) v, given-lower whole c (x .window) (x .positive) v) at (x .above) in
         record { window = x .window; positive = x .positive; within = v; above = omega (arith, lt-parts _ _ l) }
+
     back : Crossed cutOff c → Crossed whole (given whole c)
     back x =
-        record
-          { window = x .window
-          ; positive = x .positive
-          ; within = rw (given-horizon whole c) (x .within)
-          ; above =
+        record {
+          window = x .window;
+          positive = x .positive;
+          within = rw (given-horizon whole c) (x .within);
+          above =
               rw (given-upper whole c (x .window) (x .positive) (x .within), given-lower whole c (x .window) (x .positive) (x .within))
-              (parts-lt (pos (ceiling c (x .window))) (pos (least c (x .window))) (omega (arith, x .above)))
-          }
+              (parts-lt (pos (ceiling c (x .window))) (pos (least c (x .window))) (omega (arith, x .above)));
+        }
 
 pub same-given : (c e : Pair) → Same (pos 0) (given whole c) (given whole e) → Equal c e
 same-given c e q = record { horizons = hor; uppers = upper; lowers = lower }
   where
     hor : horizon c ≡ horizon e
     hor = sym (given-horizon whole c) ∙ q .horizons ∙ given-horizon whole e
+
     upper : (d : ℕ) → 1 ≤ d → d ≤ horizon c → ceiling c d ≡ ceiling e d
     upper d u v =
         ap natAbs
         (sym (given-upper whole c d u v) ∙ q .uppers d u (rw (given-horizon whole c) v) ∙ given-upper whole e d u (rw (sym hor) v))
+
     lower : (d : ℕ) → 1 ≤ d → d ≤ horizon c → least c d ≡ least e d
     lower d u v =
         ap natAbs
@@ -71,13 +74,16 @@ settled-given : (c : Pair) → ¬ Crossed cutOff c → Settled whole (given whol
 settled-given c n = ⊎-elim agree cross (round-agrees c)
   where
     agree : round whole (given whole c) ≡ given whole (round cutOff c) → Settled whole (given whole c) ↔ Settled cutOff c
-    agree e =
-        ( (λ s. same-given (round cutOff c) c (rw e at s))
-        , (λ s. rw e (given-same-whole (round cutOff c) c s)))
+    agree e = (
+      (λ s. same-given (round cutOff c) c (rw e at s)),
+      (λ s. rw e (given-same-whole (round cutOff c) c s)),
+    )
+
     cross : Crossed whole (round whole (given whole c)) × Crossed cutOff (round cutOff c) → Settled whole (given whole c) ↔ Settled cutOff c
-    cross x =
-        ( (λ s. absurd (n (crossed-given c .0 (same-crossed whole _ _ s (x .0)))))
-        , (λ s. absurd (n (same-crossed cutOff _ _ s (x .1)))))
+    cross x = (
+      (λ s. absurd (n (crossed-given c .0 (same-crossed whole _ _ s (x .0))))),
+      (λ s. absurd (n (same-crossed cutOff _ _ s (x .1)))),
+    )
 
 module _ (p : Pair) where
   abbrev Agrees : ℕ → Type 0
@@ -108,23 +114,24 @@ module _ (p : Pair) where
   runs-cut : (n : ℕ) → Runs whole p n → Runs cutOff p n
   runs-cut n r =
       let un : (k : ℕ) → k < n → ¬ Crossed cutOff (after cutOff k p) = uncrossed n (r .uncrossed) in
-      record
-        { uncrossed = un
-        ; changes = λ k l s. r .changes k l (settled-iff k (agree k (λ j i. un j (omega arith))) (un k l) .1 s)
-        }
+      record {
+        uncrossed = un;
+        changes = λ k l s. r .changes k l (settled-iff k (agree k (λ j i. un j (omega arith))) (un k l) .1 s);
+      }
 
   runs-whole : (n : ℕ) → Runs cutOff p n → Runs whole p n
   runs-whole n r =
       let ag : (k : ℕ) → k ≤ n → Agrees k = λ k l. agree k (λ j i. r .uncrossed j (omega arith)) in
-      record
-        { uncrossed = λ k l x. r .uncrossed k l (crossed-iff k (ag k (omega arith)) .0 x)
-        ; changes = λ k l s. r .changes k l (settled-iff k (ag k (omega arith)) (r .uncrossed k l) .0 s)
-        }
+      record {
+        uncrossed = λ k l x. r .uncrossed k l (crossed-iff k (ag k (omega arith)) .0 x);
+        changes = λ k l s. r .changes k l (settled-iff k (ag k (omega arith)) (r .uncrossed k l) .0 s);
+      }
 
   pub crosses-agree : (n : ℕ) → Crosses whole p n ↔ Crosses cutOff p n
-  crosses-agree n =
-      ( (λ x. let r : Runs cutOff p n = runs-cut n (x .runs) in record { runs = r; crossed = crossed-iff n (agree n (r .uncrossed)) .0 (x .crossed) })
-      , (λ x. record { runs = runs-whole n (x .runs); crossed = crossed-iff n (agree n (x .runs .uncrossed)) .1 (x .crossed) }))
+  crosses-agree n = (
+    (λ x. let r : Runs cutOff p n = runs-cut n (x .runs) in record { runs = r; crossed = crossed-iff n (agree n (r .uncrossed)) .0 (x .crossed) }),
+    (λ x. record { runs = runs-whole n (x .runs); crossed = crossed-iff n (agree n (x .runs .uncrossed)) .1 (x .crossed) }),
+  )
 
   pub arrives-agree : (n : ℕ) (q : Pair) → Arrives whole p n q ↔ Arrives cutOff p n q
   arrives-agree n q = (there, back)
@@ -132,23 +139,26 @@ module _ (p : Pair) where
       figures : Agrees n → ¬ Crossed cutOff (after cutOff n p) → Same (pos 0) (after whole n p) (given whole q) ↔ Same 0 (after cutOff n p) (given cutOff q)
       figures a h =
           ⊎-elim
-          (λ e. rw e
-          ( (λ s. same-trans 0 _ _ _ (same-given (after cutOff n p) q s) (same-sym 0 _ _ (given-equal q)))
-          , (λ s. given-same-whole (after cutOff n p) q (same-trans 0 _ _ _ s (given-equal q)))))
+          (λ e. rw e (
+            (λ s. same-trans 0 _ _ _ (same-given (after cutOff n p) q s) (same-sym 0 _ _ (given-equal q))),
+            (λ s. given-same-whole (after cutOff n p) q (same-trans 0 _ _ _ s (given-equal q))),
+          ))
           (λ x. absurd (h (x .1)))
           a
+
       there : Arrives whole p n q → Arrives cutOff p n q
       there x =
           let r : Runs cutOff p n = runs-cut n (x .runs) in
           let a : Agrees n = agree n (r .uncrossed) in
           let h : ¬ Crossed cutOff (after cutOff n p) = λ y. x .uncrossed (crossed-iff n a .1 y) in
           record { runs = r; uncrossed = h; settled = settled-iff n a h .0 (x .settled); figures = figures a h .0 (x .figures) }
+
       back : Arrives cutOff p n q → Arrives whole p n q
       back x =
           let a : Agrees n = agree n (x .runs .uncrossed) in
-          record
-            { runs = runs-whole n (x .runs)
-            ; uncrossed = λ y. x .uncrossed (crossed-iff n a .0 y)
-            ; settled = settled-iff n a (x .uncrossed) .1 (x .settled)
-            ; figures = figures a (x .uncrossed) .1 (x .figures)
-            }
+          record {
+            runs = runs-whole n (x .runs);
+            uncrossed = λ y. x .uncrossed (crossed-iff n a .0 y);
+            settled = settled-iff n a (x .uncrossed) .1 (x .settled);
+            figures = figures a (x .uncrossed) .1 (x .figures);
+          }

@@ -22,6 +22,7 @@ crossed? c = ⊎-elim (λ h. inl (λ x. none h x)) inr (every (λ d. least c d �
   where
     none : ((d : ℕ) → 1 ≤ d → d ≤ horizon c → least c d ≤ ceiling c d) → Crossed cutOff c → ⊥
     none h x = omega (arith, h (x .window) (x .positive) (x .within), x .above)
+
     one : (d : ℕ) → 1 ≤ d → d ≤ horizon c → (least c d ≤ ceiling c d) ⊎ Crossed cutOff c
     one d u v =
         elim (decLe (least c d) (ceiling c d)) [ yes h ↦ inl h | no h ↦ inr (record { window = d; positive = u; within = v; above = omega arith }) ]
@@ -31,18 +32,18 @@ equal? c e s = ⊎-elim (λ h. inl (record { horizons = s; uppers = λ d u v. h 
   where
     one : (d : ℕ) → 1 ≤ d → d ≤ horizon c → ((ceiling c d ≡ ceiling e d) × (least c d ≡ least e d)) ⊎ ¬ Equal c e
     one d u v =
-        elim (ℕ-discrete (ceiling c d) (ceiling e d))
-        [ yes h ↦ elim (ℕ-discrete (least c d) (least e d)) [ yes l ↦ inl (h, l) | no l ↦ inr (λ q. l (q .lowers d u v)) ]
-        | no h ↦ inr (λ q. h (q .uppers d u v))
+        elim (ℕ-discrete (ceiling c d) (ceiling e d)) [
+          | yes h ↦ elim (ℕ-discrete (least c d) (least e d)) [ yes l ↦ inl (h, l) | no l ↦ inr (λ q. l (q .lowers d u v)) ]
+          | no h ↦ inr (λ q. h (q .uppers d u v))
         ]
 
 -- ---- one round more
 pub runs-more : (A : Arithmetic) (p : Pair) (n : ℕ) → Runs A p n → ¬ Crossed A (after A n p) → ¬ Settled A (after A n p) → Runs A p (suc n)
 runs-more A p n r h s =
-    record
-      { uncrossed = below-suc (λ k. ¬ Crossed A (after A k p)) n (r .uncrossed) h
-      ; changes = below-suc (λ k. ¬ Settled A (after A k p)) n (r .changes) s
-      }
+    record {
+      uncrossed = below-suc (λ k. ¬ Crossed A (after A k p)) n (r .uncrossed) h;
+      changes = below-suc (λ k. ¬ Settled A (after A k p)) n (r .changes) s;
+    }
 
 pub runs-none : (A : Arithmetic) (p : Pair) → Runs A p 0
 runs-none A p = record { uncrossed = λ k l. absurd (omega arith); changes = λ k l. absurd (omega arith) }
@@ -74,9 +75,9 @@ arrives-or-crosses p =
 -- ---- once
 pub never-both : NeverBoth
 never-both p q m n a x =
-    elim (decLt m n)
-    [ yes l ↦ x .runs .changes m l (a .settled)
-    | no g ↦ elim (decLt n m) [ yes l ↦ a .runs .uncrossed n l (x .crossed) | no g′ ↦ at (omega arith) ]
+    elim (decLt m n) [
+      | yes l ↦ x .runs .changes m l (a .settled)
+      | no g ↦ elim (decLt n m) [ yes l ↦ a .runs .uncrossed n l (x .crossed) | no g′ ↦ at (omega arith) ]
     ]
   where
     at : n ≡ m → ⊥
@@ -84,9 +85,9 @@ never-both p q m n a x =
 
 one-number : (p q r : Pair) (m n : ℕ) → Arrives whole p m q → Arrives whole p n r → m ≡ n
 one-number p q r m n a b =
-    elim (decLt m n)
-    [ yes l ↦ absurd (b .runs .changes m l (a .settled))
-    | no g ↦ elim (decLt n m) [ yes l ↦ absurd (a .runs .changes n l (b .settled)) | no g′ ↦ omega arith ]
+    elim (decLt m n) [
+      | yes l ↦ absurd (b .runs .changes m l (a .settled))
+      | no g ↦ elim (decLt n m) [ yes l ↦ absurd (a .runs .changes n l (b .settled)) | no g′ ↦ omega arith ]
     ]
 
 pub arrives-once : ArrivesOnce
@@ -96,9 +97,9 @@ arrives-once p q r m n a b =
 
 pub crosses-once : CrossesOnce
 crosses-once p m n a b =
-    elim (decLt m n)
-    [ yes l ↦ absurd (b .runs .uncrossed m l (a .crossed))
-    | no g ↦ elim (decLt n m) [ yes l ↦ absurd (a .runs .uncrossed n l (b .crossed)) | no g′ ↦ omega arith ]
+    elim (decLt m n) [
+      | yes l ↦ absurd (b .runs .uncrossed m l (a .crossed))
+      | no g ↦ elim (decLt n m) [ yes l ↦ absurd (a .runs .uncrossed n l (b .crossed)) | no g′ ↦ omega arith ]
     ]
 
 -- ---- within the slack

@@ -51,9 +51,9 @@ module _ (p : Pair) (c : Causal p) where
   pub below : (d : ℕ) → 1 ≤ d → d ≤ horizon p → least p d ≤ ceiling p d
   unfolding g
   below d u v =
-      elim (decLe (least p d) (ceiling p d))
-      [ yes h ↦ h
-      | no h ↦ absurd (c .uncrossed (record { window = d; positive = u; within = rw same-horizon v; above = above h }))
+      elim (decLe (least p d) (ceiling p d)) [
+        | yes h ↦ h
+        | no h ↦ absurd (c .uncrossed (record { window = d; positive = u; within = rw same-horizon v; above = above h }))
       ]
     where
       above : ¬ (least p d ≤ ceiling p d) → upperAt whole g d <ℤ lowerAt whole g d
@@ -81,29 +81,33 @@ module _ (p : Pair) (c : Causal p) where
 
   upper-plus : (a b : ℕ) → 1 ≤ a → 1 ≤ b → a + b ≤ horizon p → ceiling p (a + b) ≤ ceiling p a + ceiling p b
   upper-plus a b u v w =
-      omega
-      ( arith
-      , le-parts _ _ (keeps-plus _≤ℤ_ _ smaller-best (horizon g) (ceiling p) (least p) (upperAt whole g) (lowerAt whole g) is-upper is-lower settled-upper a b u v (rw same-horizon w)))
+      omega (
+        arith,
+        le-parts _ _ (keeps-plus _≤ℤ_ _ smaller-best (horizon g) (ceiling p) (least p) (upperAt whole g) (lowerAt whole g) is-upper is-lower settled-upper a b u v (rw same-horizon w)),
+      )
 
   lower-plus : (a b : ℕ) → 1 ≤ a → 1 ≤ b → a + b ≤ horizon p → least p a + least p b ≤ least p (a + b)
   lower-plus a b u v w =
-      omega
-      ( arith
-      , le-parts _ _ (keeps-plus (λ x y. y ≤ℤ x) _ larger-best (horizon g) (least p) (ceiling p) (lowerAt whole g) (upperAt whole g) is-lower is-upper settled-lower a b u v (rw same-horizon w)))
+      omega (
+        arith,
+        le-parts _ _ (keeps-plus (λ x y. y ≤ℤ x) _ larger-best (horizon g) (least p) (ceiling p) (lowerAt whole g) (upperAt whole g) is-lower is-upper settled-lower a b u v (rw same-horizon w)),
+      )
 
   upper-minus : (a b : ℕ) → 1 ≤ a → 1 ≤ b → a + b ≤ horizon p → ceiling p a + least p b ≤ ceiling p (a + b)
   upper-minus a b u v w =
-      omega
-      ( arith
-      , minus-parts (pos (ceiling p (a + b))) (pos (least p b))
-      , le-parts _ _ (keeps-minus _≤ℤ_ _ smaller-best (horizon g) (ceiling p) (least p) (upperAt whole g) (lowerAt whole g) is-upper is-lower settled-upper a b u v (rw same-horizon w)))
+      omega (
+        arith,
+        minus-parts (pos (ceiling p (a + b))) (pos (least p b)),
+        le-parts _ _ (keeps-minus _≤ℤ_ _ smaller-best (horizon g) (ceiling p) (least p) (upperAt whole g) (lowerAt whole g) is-upper is-lower settled-upper a b u v (rw same-horizon w)),
+      )
 
   lower-minus : (a b : ℕ) → 1 ≤ a → 1 ≤ b → a + b ≤ horizon p → least p (a + b) ≤ least p a + ceiling p b
   lower-minus a b u v w =
-      omega
-      ( arith
-      , minus-parts (pos (least p (a + b))) (pos (ceiling p b))
-      , le-parts _ _ (keeps-minus (λ x y. y ≤ℤ x) _ larger-best (horizon g) (least p) (ceiling p) (lowerAt whole g) (upperAt whole g) is-lower is-upper settled-lower a b u v (rw same-horizon w)))
+      omega (
+        arith,
+        minus-parts (pos (least p (a + b))) (pos (ceiling p b)),
+        le-parts _ _ (keeps-minus (λ x y. y ≤ℤ x) _ larger-best (horizon g) (least p) (ceiling p) (lowerAt whole g) (upperAt whole g) is-lower is-upper settled-lower a b u v (rw same-horizon w)),
+      )
 
   -- A law for parts of at least one tick holds for all parts, where it holds with a part of none.
   parts : (P : ℕ → ℕ → ℕ → Type 0) → ((a b : ℕ) → 1 ≤ a → 1 ≤ b → a + b ≤ horizon p → P a b (a + b))
@@ -120,9 +124,9 @@ module _ (p : Pair) (c : Causal p) where
   pub closed : Closed p
   unfolding figure
   closed =
-      record
-        { upper-plus = parts (λ a b d. ceiling p d ≤ ceiling p a + ceiling p b) upper-plus (λ b v. omega arith) (λ a u v. omega arith)
-        ; lower-plus = parts (λ a b d. least p a + least p b ≤ least p d) lower-plus (λ b v. omega arith) (λ a u v. omega arith)
-        ; upper-minus = parts (λ a b d. ceiling p a + least p b ≤ ceiling p d) upper-minus (λ b v. omega (arith, below₀ b v)) (λ a u v. omega arith)
-        ; lower-minus = parts (λ a b d. least p d ≤ least p a + ceiling p b) lower-minus (λ b v. omega (arith, below₀ b v)) (λ a u v. omega arith)
-        }
+      record {
+        upper-plus = parts (λ a b d. ceiling p d ≤ ceiling p a + ceiling p b) upper-plus (λ b v. omega arith) (λ a u v. omega arith);
+        lower-plus = parts (λ a b d. least p a + least p b ≤ least p d) lower-plus (λ b v. omega arith) (λ a u v. omega arith);
+        upper-minus = parts (λ a b d. ceiling p a + least p b ≤ ceiling p d) upper-minus (λ b v. omega (arith, below₀ b v)) (λ a u v. omega arith);
+        lower-minus = parts (λ a b d. least p d ≤ least p a + ceiling p b) lower-minus (λ b v. omega (arith, below₀ b v)) (λ a u v. omega arith);
+      }

@@ -44,10 +44,10 @@ same-lists z us vs e h = ext-getD z us vs e (λ i l. h (suc i) (omega arith) l)
 full-same : {N : Type 0} (z : N) (c e : Curves N) → length (c .lower) ≡ horizon c → length (e .lower) ≡ horizon e → Same z c e → c ≡ e
 full-same z c e f f′ s =
     λ i.
-      record
-        { upper = same-lists z (c .upper) (e .upper) (s .horizons) (s .uppers) i
-        ; lower = same-lists z (c .lower) (e .lower) (f ∙ s .horizons ∙ sym f′) (λ d u v. s .lowers d u (rw (sym f) v)) i
-        }
+    record {
+      upper = same-lists z (c .upper) (e .upper) (s .horizons) (s .uppers) i;
+      lower = same-lists z (c .lower) (e .lower) (f ∙ s .horizons ∙ sym f′) (λ d u v. s .lowers d u (rw (sym f) v)) i;
+    }
 
 pub given-full : (A : Arithmetic) (p : Pair) → length (given A p .lower) ≡ horizon (given A p)
 unfolding given
@@ -75,13 +75,15 @@ causal-iff-own-closure p = ((λ c. (0, causal-takes-no-round p c)), (λ a. closu
 -- ---- one more tick
 pub one-more-tick : OneMoreTick
 one-more-tick p xs h c k =
-    let C : Closed p = closed p c in
-    ( lo p xs
-    , hi p xs
-    , lo-hi p C xs k h
-    , λ x.
-      ( (λ m. keeps-range p C xs k x h .0 (conforms-keeps p xs x m))
-      , (λ r. keeps-conforms p xs x k (keeps-range p C xs k x h .1 r))))
+    let C : Closed p = closed p c in (
+      lo p xs,
+      hi p xs,
+      lo-hi p C xs k h,
+      λ x. (
+        (λ m. keeps-range p C xs k x h .0 (conforms-keeps p xs x m)),
+        (λ r. keeps-conforms p xs x k (keeps-range p C xs k x h .1 r)),
+      ),
+    )
 
 -- ---- the closure q of p, after n rounds
 module _ (p q : Pair) (n : ℕ) (a : Arrives whole p n q) where

@@ -31,6 +31,7 @@ module _ (best′ : ℤ → ℤ → ℤ) (best : ℕ → ℕ → ℕ) (H : ℕ) 
           ap (λ x. fold best′ x (λ a. own′ a +ℤ own′ (d - a)) (d - 1)) (is d u v)
           ∙ fold-map pos best best′ (own d) (λ a. own a + own (d - a)) _ (d - 1)
           (λ a p q y. ap (best′ (pos y)) (ap₂ _+ℤ_ (is a p (omega arith)) (is (d - a) (omega arith) (omega arith))) ∙ best-pos y (own a + own (d - a)))
+
       differences : fold best′ (pos (fold best (own d) (λ a. own a + own (d - a)) (d - 1))) (λ t. own′ (d + t) -ℤ other′ t) (H - d) ≡ pos (newFigure cutOff best H own other d)
       differences =
           fold-map pos best best′ _ (λ t. own (d + t) - other t) _ (H - d)
@@ -76,23 +77,28 @@ module _ (c : Pair) where
   BothCross = Crossed whole (round whole (given whole c)) × Crossed cutOff (round cutOff c)
 
   negative-crosses : (d t : ℕ) → 1 ≤ d → 1 ≤ t → d + t ≤ horizon c → ceiling c (d + t) < least c t → BothCross
-  negative-crosses d t u p q n =
-      ( record { window = d + t; positive = w; within = rw (round-horizon whole (given whole c), given-horizon whole c) q; above = exact }
-      , record { window = d + t; positive = w; within = rw (round-horizon cutOff c) q; above = cut })
+  negative-crosses d t u p q n = (
+    record { window = d + t; positive = w; within = rw (round-horizon whole (given whole c), given-horizon whole c) q; above = exact },
+    record { window = d + t; positive = w; within = rw (round-horizon cutOff c) q; above = cut },
+  )
     where
       w : 1 ≤ d + t
       w = omega arith
+
       least-high : least c t ≤ least (round cutOff c) (d + t)
       least-high =
           let e : d + t - d ≡ t = omega arith in
           rw (round-lower cutOff c (d + t) w q)
           (omega (arith, new-plus cutOff (λ x y. y ≤ x) max max-best (horizon c) (least c) (ceiling c) (d + t) d u (omega arith), ap (least c) e))
+
       cut : ceiling (round cutOff c) (d + t) < least (round cutOff c) (d + t)
       cut = omega (arith, least-high, upper-falls c (d + t) w q)
+
       ceiling-low : upperAt whole (round whole (given whole c)) (d + t) ≤ℤ pos (ceiling c (d + t))
       ceiling-low =
           rw (exact-upper (d + t) w q, sym (is-upper (d + t) w q))
           (new-old whole _≤ℤ_ (whole .smaller) smaller-best (horizon c) (upperAt whole (given whole c)) (lowerAt whole (given whole c)) (d + t))
+
       exact : upperAt whole (round whole (given whole c)) (d + t) <ℤ lowerAt whole (round whole (given whole c)) (d + t)
       exact =
           rw (lower-agrees (d + t) w q)
@@ -106,13 +112,14 @@ module _ (c : Pair) where
   unfolding round given
   all-agree n =
       λ i.
-        record
-          { upper = table-same _ _ (horizon (given whole c)) (horizon (round cutOff c)) horizons (λ d u v. sym (round-upper whole (given whole c) d u v) ∙ upper-agrees d u (inner d v) (n d u (inner d v))) i
-          ; lower = table-same _ _ (horizon (given whole c)) (horizon (round cutOff c)) horizons (λ d u v. sym (round-lower whole (given whole c) d u v) ∙ lower-agrees d u (inner d v)) i
-          }
+      record {
+        upper = table-same _ _ (horizon (given whole c)) (horizon (round cutOff c)) horizons (λ d u v. sym (round-upper whole (given whole c) d u v) ∙ upper-agrees d u (inner d v) (n d u (inner d v))) i;
+        lower = table-same _ _ (horizon (given whole c)) (horizon (round cutOff c)) horizons (λ d u v. sym (round-lower whole (given whole c) d u v) ∙ lower-agrees d u (inner d v)) i;
+      }
     where
       horizons : horizon (given whole c) ≡ horizon (round cutOff c)
       horizons = given-horizon whole c ∙ sym (round-horizon cutOff c)
+
       inner : (d : ℕ) → d ≤ horizon (given whole c) → d ≤ horizon c
       inner d v = subst (λ (h : ℕ). d ≤ h) (given-horizon whole c) v
 

@@ -49,6 +49,7 @@ module _ (p : Pair) (xs : List ℕ) where
       earlier l =
           let e : k + (suc i - k) ≡ suc i = omega arith in
           sym (grow-more k (suc i - k) i h) ∙ ap (λ j. countsOf (grow p xs j) i) e
+
       later : suc i ≤ k → countsOf (grow p xs k) i ≡ forever p xs i
       later l =
           let e : suc i + (k - suc i) ≡ k = omega arith in

@@ -33,19 +33,19 @@ given-self p e = λ i. record { upper = table-self (ceiling p) (p .upper) 0 (λ 
 module _ {N : Type 0} (z : N) where
   pub same-sym : (c e : Curves N) → Same z c e → Same z e c
   same-sym c e q =
-      record
-        { horizons = sym (q .horizons)
-        ; uppers = λ d u v. sym (q .uppers d u (rw (q .horizons) v))
-        ; lowers = λ d u v. sym (q .lowers d u (rw (q .horizons) v))
-        }
+      record {
+        horizons = sym (q .horizons);
+        uppers = λ d u v. sym (q .uppers d u (rw (q .horizons) v));
+        lowers = λ d u v. sym (q .lowers d u (rw (q .horizons) v));
+      }
 
   pub same-trans : (c e f : Curves N) → Same z c e → Same z e f → Same z c f
   same-trans c e f q r =
-      record
-        { horizons = q .horizons ∙ r .horizons
-        ; uppers = λ d u v. q .uppers d u v ∙ r .uppers d u (rw (sym (q .horizons)) v)
-        ; lowers = λ d u v. q .lowers d u v ∙ r .lowers d u (rw (sym (q .horizons)) v)
-        }
+      record {
+        horizons = q .horizons ∙ r .horizons;
+        uppers = λ d u v. q .uppers d u v ∙ r .uppers d u (rw (sym (q .horizons)) v);
+        lowers = λ d u v. q .lowers d u v ∙ r .lowers d u (rw (sym (q .horizons)) v);
+      }
 
 module _ (A : Arithmetic) where
   pub round-horizon : (c : Curves (A .Number)) → horizon (round A c) ≡ horizon c
@@ -74,19 +74,19 @@ module _ (A : Arithmetic) where
   unfolding given
   given-same c e q =
       λ i.
-        record
-          { upper = table-same _ _ (horizon c) (horizon e) (q .horizons) (λ d u v. ap (A .of) (q .uppers d u v)) i
-          ; lower = table-same _ _ (horizon c) (horizon e) (q .horizons) (λ d u v. ap (A .of) (q .lowers d u v)) i
-          }
+      record {
+        upper = table-same _ _ (horizon c) (horizon e) (q .horizons) (λ d u v. ap (A .of) (q .uppers d u v)) i;
+        lower = table-same _ _ (horizon c) (horizon e) (q .horizons) (λ d u v. ap (A .of) (q .lowers d u v)) i;
+      }
 
   pub same-crossed : (c e : Curves (A .Number)) → Same (A .of 0) c e → Crossed A c → Crossed A e
   same-crossed c e q x =
-      record
-        { window = x .window
-        ; positive = x .positive
-        ; within = rw (sym (q .horizons)) (x .within)
-        ; above = subst₂ (A .Below) (q .uppers (x .window) (x .positive) (x .within)) (q .lowers (x .window) (x .positive) (x .within)) (x .above)
-        }
+      record {
+        window = x .window;
+        positive = x .positive;
+        within = rw (sym (q .horizons)) (x .within);
+        above = subst₂ (A .Below) (q .uppers (x .window) (x .positive) (x .within)) (q .lowers (x .window) (x .positive) (x .within)) (x .above);
+      }
 
   pub round-upper : (c : Curves (A .Number)) (d : ℕ) → 1 ≤ d → d ≤ horizon c → upperAt A (round A c) d ≡ newFigure A (A .smaller) (horizon c) (upperAt A c) (lowerAt A c) d
   unfolding round

@@ -54,9 +54,9 @@ module _ (p : Pair) (xs : List ℕ) (x : ℕ) where
 
   pub keeps-conforms : Conforms p xs → Keeps p xs x → Conforms p (xs ++ (x ∷ []))
   keeps-conforms c k i d u v w =
-      elim (decLe (i + d) (length xs))
-      [ yes h ↦ rw (old-sum i d h) (c i d u v h)
-      | no h ↦ rw (new-sum i d u (omega (arith, length-more))) (k d u (omega (arith, length-more)))
+      elim (decLe (i + d) (length xs)) [
+        | yes h ↦ rw (old-sum i d h) (c i d u v h)
+        | no h ↦ rw (new-sum i d u (omega (arith, length-more))) (k d u (omega (arith, length-more)))
       ]
 
   pub conforms-keeps : Conforms p (xs ++ (x ∷ [])) → Keeps p xs x
@@ -85,23 +85,26 @@ module _ (p : Pair) (C : Closed p) (xs : List ℕ) (c : Conforms p xs) where
           let t : ℕ = d - e in
           let k : t + e ≡ d = omega arith in
           let k′ : t + (e - 1) ≡ d - 1 = omega arith in
-          omega
-          ( arith
-          , C .lower-minus t e (omega arith)
-          , ap (least p) k
-          , within (length xs - (d - 1)) t (omega arith) (omega arith)
-          , subst (λ (m : ℕ). last xs m ≡ sum (countsOf xs) (length xs - m) t + last xs (e - 1)) k′ (last-split t (e - 1) (omega arith)))
+          omega (
+            arith,
+            C .lower-minus t e (omega arith),
+            ap (least p) k,
+            within (length xs - (d - 1)) t (omega arith) (omega arith),
+            subst (λ (m : ℕ). last xs m ≡ sum (countsOf xs) (length xs - m) t + last xs (e - 1)) k′ (last-split t (e - 1) (omega arith)),
+          )
+
       shorter : d ≤ e → least p d + last xs (e - 1) ≤ ceiling p e + last xs (d - 1)
       shorter h =
           let t : ℕ = e - d in
           let k : t + d ≡ e = omega arith in
           let k′ : t + (d - 1) ≡ e - 1 = omega arith in
-          omega
-          ( arith
-          , C .upper-minus t d (omega arith)
-          , ap (ceiling p) k
-          , within (length xs - (e - 1)) t (omega arith) (omega arith)
-          , subst (λ (m : ℕ). last xs m ≡ sum (countsOf xs) (length xs - m) t + last xs (d - 1)) k′ (last-split t (d - 1) (omega arith)))
+          omega (
+            arith,
+            C .upper-minus t d (omega arith),
+            ap (ceiling p) k,
+            within (length xs - (e - 1)) t (omega arith) (omega arith),
+            subst (λ (m : ℕ). last xs m ≡ sum (countsOf xs) (length xs - m) t + last xs (d - 1)) k′ (last-split t (d - 1) (omega arith)),
+          )
 
   room : (d : ℕ) → 1 ≤ d → d ≤ judged p xs → last xs (d - 1) ≤ ceiling p d
   room d u v =
@@ -112,19 +115,22 @@ module _ (p : Pair) (C : Closed p) (xs : List ℕ) (c : Conforms p xs) where
   keeps-range x h = (there, back)
     where
       there : Keeps p xs x → (lo p xs ≤ x) × (x ≤ hi p xs)
-      there k =
-          ( fold-both (λ a b. b ≤ a) max max-best 0 _ x (judged p xs) (omega arith) (λ d u v. omega (arith, k d u v))
-          , fold-both _≤_ min min-best (ceiling p 1) _ x (judged p xs) (first (k 1 (omega arith) (omega arith))) (λ d u v. omega (arith, k d u v)))
+      there k = (
+        fold-both (λ a b. b ≤ a) max max-best 0 _ x (judged p xs) (omega arith) (λ d u v. omega (arith, k d u v)),
+        fold-both _≤_ min min-best (ceiling p 1) _ x (judged p xs) (first (k 1 (omega arith) (omega arith))) (λ d u v. omega (arith, k d u v)),
+      )
         where
           first : Inside p 1 (last xs 0 + x) → x ≤ ceiling p 1
           first i = omega (arith, last-none xs)
+
       back : (lo p xs ≤ x) × (x ≤ hi p xs) → Keeps p xs x
       back r d u v =
-          omega
-          ( arith
-          , room d u v
-          , fold-each (λ a b. b ≤ a) max max-best 0 (λ k. least p k - last xs (k - 1)) (judged p xs) d u v
-          , fold-each _≤_ min min-best (ceiling p 1) (λ k. ceiling p k - last xs (k - 1)) (judged p xs) d u v)
+          omega (
+            arith,
+            room d u v,
+            fold-each (λ a b. b ≤ a) max max-best 0 (λ k. least p k - last xs (k - 1)) (judged p xs) d u v,
+            fold-each _≤_ min min-best (ceiling p 1) (λ k. ceiling p k - last xs (k - 1)) (judged p xs) d u v,
+          )
 
   pub lo-hi : 1 ≤ horizon p → lo p xs ≤ hi p xs
   lo-hi h =

@@ -31,10 +31,11 @@ pub sum-last : (xs : List ℕ) (x i d : ℕ) → i + suc d ≡ suc (length xs) �
 unfolding sum
 sum-last xs x i d e =
     let n : i + d ≡ length xs = omega arith in
-    omega
-    ( arith
-    , local (countsOf (xs ++ (x ∷ []))) (countsOf xs) i d (λ k p q. List·getD-append xs (x ∷ []) 0 k (omega arith))
-    , at-end n)
+    omega (
+      arith,
+      local (countsOf (xs ++ (x ∷ []))) (countsOf xs) i d (λ k p q. List·getD-append xs (x ∷ []) 0 k (omega arith)),
+      at-end n,
+    )
   where
     at-end : i + d ≡ length xs → countsOf (xs ++ (x ∷ [])) (i + d) ≡ x
     at-end n = rw n (getD-at-end xs)

@@ -37,21 +37,25 @@ rooms-fall e c n s u = elim (decLt (rooms e r) (rooms e c)) [ yes h ↦ h | no h
   where
     r : Pair
     r = round cutOff c
+
     horizons : rooms e r ≡ fold _+_ 0 (room e r) (horizon c)
     horizons = ap (fold _+_ 0 (room e r)) (round-horizon cutOff c)
+
     smaller : (d : ℕ) → 1 ≤ d → d ≤ horizon c → room e r d ≤ room e c d
     smaller d p q = omega (arith, upper-falls c d p q, lower-rises c d p q)
+
     tight : fold _+_ 0 (room e c) (horizon c) ≤ fold _+_ 0 (room e r) (horizon c) → (d : ℕ) → 1 ≤ d → d ≤ horizon c → (ceiling r d ≡ ceiling c d) × (least r d ≡ least c d)
     tight t d p q =
         let t′ : room e r d ≡ room e c d = sum-tight (room e r) (room e c) (horizon c) smaller t d p q in
         omega (arith, upper-falls c d p q, lower-rises c d p q, below c n d p q, u d p q t′)
+
     same : rooms e c ≤ fold _+_ 0 (room e r) (horizon c) → Settled cutOff c
     same t =
-        record
-          { horizons = round-horizon cutOff c
-          ; uppers = λ d p q. tight t d p (subst (λ (h : ℕ). d ≤ h) (round-horizon cutOff c) q) .0
-          ; lowers = λ d p q. tight t d p (subst (λ (h : ℕ). d ≤ h) (round-horizon cutOff c) q) .1
-          }
+        record {
+          horizons = round-horizon cutOff c;
+          uppers = λ d p q. tight t d p (subst (λ (h : ℕ). d ≤ h) (round-horizon cutOff c) q) .0;
+          lowers = λ d p q. tight t d p (subst (λ (h : ℕ). d ≤ h) (round-horizon cutOff c) q) .1;
+        }
 
 abbrev pub weight : Pair → ℕ
 weight c = rooms 1 c

@@ -24,7 +24,7 @@ FirstNo (q ∷ qs) n = ((n ≡ q .number) × (¬ q .asked)) ⊎ ((q .asked) × F
 unfoldable pub ask : (qs : List Question) → AllYes qs ⊎ ((n : ℕ) × FirstNo qs n)
 ask [] = inl tt
 ask (q ∷ qs) =
-    elim (q .answered)
-    [ yes y ↦ ⊎-map (λ ys. (y, ys)) (λ f. (f .0, inr (y, f .1))) (ask qs)
-    | no n ↦ inr (q .number, inl (refl, n))
+    elim (q .answered) [
+      | yes y ↦ ⊎-map (λ ys. (y, ys)) (λ f. (f .0, inr (y, f .1))) (ask qs)
+      | no n ↦ inr (q .number, inl (refl, n))
     ]

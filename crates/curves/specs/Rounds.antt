@@ -20,27 +20,27 @@ pub record Arithmetic : Type 1 where
 -- "Differences are whole numbers and may be negative."
 abbrev pub whole : Arithmetic
 whole =
-    record
-      { Number = ℤ
-      ; of = pos
-      ; plus = _+ℤ_
-      ; minus = _-ℤ_
-      ; smaller = λ x y. cond (leZ x y) x y
-      ; larger = λ x y. cond (leZ x y) y x
-      ; Below = _<ℤ_
-      }
+    record {
+      Number = ℤ;
+      of = pos;
+      plus = _+ℤ_;
+      minus = _-ℤ_;
+      smaller = λ x y. cond (leZ x y) x y;
+      larger = λ x y. cond (leZ x y) y x;
+      Below = _<ℤ_;
+    }
 
 abbrev pub cutOff : Arithmetic
 cutOff =
-    record
-      { Number = ℕ
-      ; of = λ n. n
-      ; plus = _+_
-      ; minus = _-_
-      ; smaller = min
-      ; larger = max
-      ; Below = _<_
-      }
+    record {
+      Number = ℕ;
+      of = λ n. n;
+      plus = _+_;
+      minus = _-_;
+      smaller = min;
+      larger = max;
+      Below = _<_;
+    }
 
 module _ (A : Arithmetic) where
   -- "New ceiling of a window d: the smallest of the old ceiling of d; ceiling of a plus ceiling of d − a, for 1 ≤ a < d; ceiling of d + t minus
@@ -58,10 +58,10 @@ module _ (A : Arithmetic) where
   -- "A round replaces all figures together, from the old ones."
   unfoldable pub round : Curves (A .Number) → Curves (A .Number)
   round c =
-      record
-        { upper = table (newFigure (A .smaller) (horizon c) (upperAt c) (lowerAt c)) (horizon c)
-        ; lower = table (newFigure (A .larger) (horizon c) (lowerAt c) (upperAt c)) (horizon c)
-        }
+      record {
+        upper = table (newFigure (A .smaller) (horizon c) (upperAt c) (lowerAt c)) (horizon c);
+        lower = table (newFigure (A .larger) (horizon c) (lowerAt c) (upperAt c)) (horizon c);
+      }
 
   -- "Some least is above its ceiling."
   pub record Crossed (c : Curves (A .Number)) : Type 0 where
@@ -77,10 +77,10 @@ module _ (A : Arithmetic) where
   -- A pair's figures, as these numbers.
   unfoldable pub given : Pair → Curves (A .Number)
   given p =
-      record
-        { upper = table (λ d. A .of (ceiling p d)) (horizon p)
-        ; lower = table (λ d. A .of (least p d)) (horizon p)
-        }
+      record {
+        upper = table (λ d. A .of (ceiling p d)) (horizon p);
+        lower = table (λ d. A .of (least p d)) (horizon p);
+      }
 
   -- The figures after n rounds, if so many are run.
   unfoldable pub after : ℕ → Pair → Curves (A .Number)

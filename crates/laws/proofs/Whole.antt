@@ -84,13 +84,13 @@ choice x y P f g = go (leZ x y) refl
 
 pub smaller-best : IsBest _≤ℤ_ (λ x y. cond (leZ x y) x y)
 smaller-best =
-    record
-      { left = λ x y. choice x y (λ z. z ≤ℤ x) (λ h. ≤ℤ-refl x) (λ h. h)
-      ; right = λ x y. choice x y (λ z. z ≤ℤ y) (λ h. h) (λ h. ≤ℤ-refl y)
-      ; both = λ z x y p q. choice x y (λ w. z ≤ℤ w) (λ h. p) (λ h. q)
-      ; chain = ≤ℤ-chain
-      ; same = ≤ℤ-refl
-      }
+    record {
+      left = λ x y. choice x y (λ z. z ≤ℤ x) (λ h. ≤ℤ-refl x) (λ h. h);
+      right = λ x y. choice x y (λ z. z ≤ℤ y) (λ h. h) (λ h. ≤ℤ-refl y);
+      both = λ z x y p q. choice x y (λ w. z ≤ℤ w) (λ h. p) (λ h. q);
+      chain = ≤ℤ-chain;
+      same = ≤ℤ-refl;
+    }
 
 choice′ : (x y : ℤ) (P : ℤ → Type 0) → (x ≤ℤ y → P y) → (y ≤ℤ x → P x) → P (cond (leZ x y) y x)
 choice′ x y P f g = go (leZ x y) refl
@@ -101,13 +101,13 @@ choice′ x y P f g = go (leZ x y) refl
 
 pub larger-best : IsBest (λ x y. y ≤ℤ x) (λ x y. cond (leZ x y) y x)
 larger-best =
-    record
-      { left = λ x y. choice′ x y (λ z. x ≤ℤ z) (λ h. h) (λ h. ≤ℤ-refl x)
-      ; right = λ x y. choice′ x y (λ z. y ≤ℤ z) (λ h. ≤ℤ-refl y) (λ h. h)
-      ; both = λ z x y p q. choice′ x y (λ w. w ≤ℤ z) (λ h. q) (λ h. p)
-      ; chain = λ x y z p q. ≤ℤ-chain z y x q p
-      ; same = ≤ℤ-refl
-      }
+    record {
+      left = λ x y. choice′ x y (λ z. x ≤ℤ z) (λ h. h) (λ h. ≤ℤ-refl x);
+      right = λ x y. choice′ x y (λ z. y ≤ℤ z) (λ h. ≤ℤ-refl y) (λ h. h);
+      both = λ z x y p q. choice′ x y (λ w. w ≤ℤ z) (λ h. q) (λ h. p);
+      chain = λ x y z p q. ≤ℤ-chain z y x q p;
+      same = ≤ℤ-refl;
+    }
 
 -- ---- sums and differences keep the order
 pub plus-mono : (x y x′ y′ : ℤ) → x ≤ℤ y → x′ ≤ℤ y′ → (x +ℤ x′) ≤ℤ (y +ℤ y′)

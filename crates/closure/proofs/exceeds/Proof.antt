@@ -1,4 +1,4 @@
--- `closure::rounds::exceeds` meets its contract: before a turn no figure before i is above the bound.
+-- `closure::exceeds` meets its contract: before a turn no figure before i is above the bound.
 -- Assumes nothing.
 use Prim.Native.Nat.{ℕ, _-_, _≤_, _<_}
 use native.Mathlib.Omega.{arith}
@@ -6,8 +6,8 @@ use borrow.Author.Needs.{needs}
 use borrow.Author.Count.{below-none, below-more}
 use lib.ListN.{length, getD}
 use Rattle.closure.proofs.Laws.{bounded-within}
-use Rattle.closure.proofs.rounds.exceeds.Statement.{statement}
-use Rattle.closure.proofs.rounds.exceeds.Tie as tie
+use Rattle.closure.proofs.exceeds.Statement.{statement}
+use Rattle.closure.proofs.exceeds.Tie as tie
 
 abbrev Inv-loop : tie.InvT-loop
 Inv-loop figures i₀ i = (i ≤ length figures) × ((k : ℕ) → k < i → getD figures k 0 ≤ 16_776_960)

@@ -1,0 +1,135 @@
+-- `closure::close` meets its promise: each refusal where its question is the first that is answered no, and else what the rounds end with.
+-- Assumes nothing.
+use Prim.Native.Nat.{ℕ, _≤_}
+use mathlib.Core.List.{List}
+use mathlib.Core.Path.{_≡_, sym, ap, _∙_}
+use native.Mathlib.Omega.{arith}
+use borrow.Author.Needs.{needs}
+use lib.ListN.{length, take}
+use lib.Seq.{length-take-le, length-front}
+use Rattle.curves.specs.Pairs.{Pair, horizon}
+use Rattle.closure.specs.Theorems.{Passes}
+use Rattle.closure.specs.Steps.{pairOf}
+use Rattle.closure.proofs.Answered.{within, upper-exceeds, lower-exceeds, no-1, no-2, no-3, no-4, ended-is}
+use Rattle.closure.proofs.Laws.{either-true, either-false}
+use Rattle.closure.proofs.close.Statement.{statement}
+use Rattle.closure.proofs.close.Tie as tie
+
+returns : tie.Need-returns
+returns c = no-1 _ _ (λ y. omega (arith, y, c .if1 .taken))
+
+returns-2 : tie.Need-returns-2
+returns-2 c = no-1 _ _ (λ y. omega (arith, y, c .if2 .taken))
+
+returns-3 : tie.Need-returns-3
+returns-3 c = no-2 _ _ (omega arith) (λ y. c .if3 .taken y)
+
+returns-4 : tie.Need-returns-4
+returns-4 c = no-3 _ _ (omega arith) (omega arith) (λ y. omega (arith, y, c .if4 .taken))
+
+returns-5 : tie.Need-returns-5
+returns-5 c = no-3 _ _ (omega arith) (omega arith) (λ y. omega (arith, y, c .if5 .taken))
+
+exceeds-requires : tie.Need-exceeds-requires
+exceeds-requires c κs = search needs
+
+returns-6 : tie.Need-returns-6
+returns-6 c =
+    no-4 _ _ (omega arith) (omega arith) (omega arith)
+    (upper-exceeds _ _ (either-true _ _ _ (c .if6 .taken) (c .before .exceeds .ensures)))
+
+exceeds-requires-2 : tie.Need-exceeds-requires-2
+exceeds-requires-2 c κs = search needs
+
+returns-7 : tie.Need-returns-7
+returns-7 c =
+    no-4 _ _ (omega arith) (omega arith) (omega arith)
+    (lower-exceeds _ _ (omega arith) (either-true _ _ _ (c .if7 .taken) (c .before .exceeds2 .ensures)))
+
+-- Where questions 1 to 4 are answered yes: the function's start, what was asked, and how long the parts of the result lists are.
+abbrev start : tie.Else7 → tie.Start
+start e = e .before .before .before .before .before .before .before .before .before .before .before .before .before
+
+abbrev given : tie.Start → Pair
+given s = pairOf (s .args .ceilings .now) (s .args .leasts .now)
+
+abbrev found : tie.Start → Pair
+found s = pairOf (s .args .upper .now) (s .args .lower .now)
+
+passes : (e : tie.Else7) → Passes (given (start e)) (found (start e))
+passes e =
+    let uppers = either-false _ _ _ (e .before .before .if6 .left) (e .before .before .before .exceeds .ensures) in
+    let lowers = either-false _ _ _ (e .if7 .left) (e .before .exceeds2 .ensures) in
+    ((omega arith, omega arith), (omega arith, ((omega arith, omega arith), (within _ _ uppers lowers, tt))))
+
+part : (e : tie.Else7) (xs : List ℕ) → horizon (given (start e)) ≤ length xs → horizon (given (start e)) ≡ length (take (horizon (given (start e))) xs)
+part e xs h = sym (length-take-le (horizon (given (start e))) xs h)
+
+slice-relend-prefix-close-into : tie.Need-slice-relend-prefix-close-into
+slice-relend-prefix-close-into c = search needs
+
+slice-aggregate-close-into : tie.Need-slice-aggregate-close-into
+slice-aggregate-close-into c = part (c .before) _ (passes (c .before) .1 .1 .0 .0)
+
+slice-relend-prefix-close-into-2 : tie.Need-slice-relend-prefix-close-into-2
+slice-relend-prefix-close-into-2 c = search needs
+
+slice-aggregate-close-into-2 : tie.Need-slice-aggregate-close-into-2
+slice-aggregate-close-into-2 c = part (c .before .before) _ (passes (c .before .before) .1 .1 .0 .1)
+
+close-into-requires : tie.Need-close-into-requires
+close-into-requires c κs =
+    let e = c .before .before in
+    let ok = passes e in
+    let uppers = either-false _ _ _ (e .before .before .if6 .left) (e .before .before .before .exceeds .ensures) in (
+      (ok .0 .1, uppers),
+      record { lowers = ok .1 .0; new-uppers = sym (part e _ (ok .1 .1 .0 .0)); new-lowers = sym (part e _ (ok .1 .1 .0 .1)) },
+    )
+
+closing-for-requires : tie.Need-closing-for-requires
+closing-for-requires c κs = search needs
+
+same-length : tie.Need-same-length
+same-length c =
+    let k = c .before .before .before .before .before in
+    let s = start (k .before .before .before) in
+    length-front (s .args .upper .now) (k .close-into .last .1 .1 .0) (horizon (given s)) (k .close-into .kept .1 .1 .0)
+
+same-length-2 : tie.Need-same-length-2
+same-length-2 c =
+    let k = c .before .before .before .before .before in
+    let s = start (k .before .before .before) in
+    length-front (s .args .lower .now) (k .close-into .last .1 .1 .1 .0) (horizon (given s)) (k .close-into .kept .1 .1 .1 .0)
+
+returns-8 : tie.Need-returns-8
+returns-8 c =
+    let k = c .before .before .before .before .before in
+    let e = k .before .before .before in
+    let ok = passes e in
+    let uppers = k .close-into .kept .1 .1 .0 ∙ sym (part e _ (ok .1 .1 .0 .0)) in
+    let lowers = k .close-into .kept .1 .1 .1 .0 ∙ sym (part e _ (ok .1 .1 .0 .1)) in
+    ended-is (given (start e)) (found (start e)) ok (k .close-into .last .1 .1 .0) (k .close-into .last .1 .1 .1 .0) uppers lowers
+    (k .close-into .result) (c .closing-for .result) (c .closing-for .ensures) (k .close-into .ensures)
+
+pub close-spec : {M : Type 1} → statement M
+close-spec =
+    tie.close
+    (tie.spec
+    returns
+    returns-2
+    returns-3
+    returns-4
+    returns-5
+    exceeds-requires
+    returns-6
+    exceeds-requires-2
+    returns-7
+    slice-relend-prefix-close-into
+    slice-aggregate-close-into
+    slice-relend-prefix-close-into-2
+    slice-aggregate-close-into-2
+    close-into-requires
+    closing-for-requires
+    same-length
+    same-length-2
+    returns-8)

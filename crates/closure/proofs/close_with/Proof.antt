@@ -1,0 +1,94 @@
+-- `closure::close_with` meets its contract: the rounds are those of the pair that was copied, and what they end with is delivered.
+-- Assumes nothing.
+use mathlib.Core.Path.{ap}
+use native.Mathlib.Omega.{arith}
+use borrow.Author.Needs.{needs}
+use lib.ListN.{length}
+use Rattle.closure.proofs.Laws.{ready, ended-with, same-pairs}
+use Rattle.closure.proofs.close_with.Statement.{statement}
+use Rattle.closure.proofs.close_with.Tie as tie
+
+copy-requires : tie.Need-copy-requires
+copy-requires c κs = search needs
+
+copy-requires-2 : tie.Need-copy-requires-2
+copy-requires-2 c κs = search needs
+
+-- The places before the rounds: the function's start, and the two copies.
+abbrev start : tie.After-copy → tie.Start
+start a = a .before .before .before .before .before .before .before .before .before .before
+
+abbrev first : tie.After-copy2 → tie.After-copy
+first b = b .before .before .before .before
+
+run-requires : tie.Need-run-requires
+run-requires c κs =
+    let b = c .before .before .before .before .before .before in
+    let pre = start (first b) .pre in
+    let uppers = ap length (first b .copy .ensures) in
+    let lowers = ap length (b .copy2 .ensures) in (
+      ready _ _ (first b .copy .ensures) (pre .0),
+      record {
+        lowers = omega (arith, uppers, lowers, pre);
+        new-uppers = omega (arith, uppers, pre);
+        new-lowers = omega (arith, uppers, pre);
+      },
+    )
+
+-- The place after the rounds, from the one before them.
+abbrev copied : tie.After-run → tie.After-copy2
+copied r = r .before .before .before .before .before .before .before
+
+deliver-requires : tie.Need-deliver-requires
+deliver-requires c κs =
+    let r = c .before .before .before .before .before .before .before .before .before .before .before .before in
+    let pre = start (first (copied r)) .pre in
+    let kept = r .run .kept in
+    let uppers = ap length (first (copied r) .copy .ensures) in
+    let lowers = ap length (copied r .copy2 .ensures) in
+    record {
+      lowers = omega (arith, kept .0, kept .1 .0, uppers, lowers, pre);
+      new-uppers = omega (arith, kept .0, uppers, pre);
+      new-lowers = omega (arith, kept .0, uppers, pre);
+    }
+
+same-length : tie.Need-same-length
+same-length c = search needs
+
+same-length-2 : tie.Need-same-length-2
+same-length-2 c = search needs
+
+same-length-3 : tie.Need-same-length-3
+same-length-3 c = search needs
+
+same-length-4 : tie.Need-same-length-4
+same-length-4 c = search needs
+
+same-length-5 : tie.Need-same-length-5
+same-length-5 c = search needs
+
+same-length-6 : tie.Need-same-length-6
+same-length-6 c = search needs
+
+returns : tie.Need-returns
+returns c =
+    let d = c .before .before .before .before in
+    let r = d .before .before .before .before .before .before .before .before .before .before .before .before .before in
+    let of-p = same-pairs _ _ _ _ (first (copied r) .copy .ensures) (copied r .copy2 .ensures) in
+    ended-with _ _ _ _ _ (r .run .result) of-p (r .run .ensures) (d .deliver .ensures)
+
+pub close-with-spec : {M : Type 1} → statement M
+close-with-spec =
+    tie.close
+    (tie.spec
+    copy-requires
+    copy-requires-2
+    run-requires
+    deliver-requires
+    same-length
+    same-length-2
+    same-length-3
+    same-length-4
+    same-length-5
+    same-length-6
+    returns)
