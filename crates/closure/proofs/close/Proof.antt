@@ -30,16 +30,10 @@ returns-4 c = no-3 _ _ (omega arith) (omega arith) (λ y. omega (arith, y, c .if
 returns-5 : tie.Need-returns-5
 returns-5 c = no-3 _ _ (omega arith) (omega arith) (λ y. omega (arith, y, c .if5 .taken))
 
-exceeds-requires : tie.Need-exceeds-requires
-exceeds-requires c κs = search needs
-
 returns-6 : tie.Need-returns-6
 returns-6 c =
     no-4 _ _ (omega arith) (omega arith) (omega arith)
     (upper-exceeds _ _ (either-true _ _ _ (c .if6 .taken) (c .before .exceeds .ensures)))
-
-exceeds-requires-2 : tie.Need-exceeds-requires-2
-exceeds-requires-2 c κs = search needs
 
 returns-7 : tie.Need-returns-7
 returns-7 c =
@@ -65,14 +59,8 @@ passes e =
 part : (e : tie.Else7) (xs : List ℕ) → horizon (given (start e)) ≤ length xs → horizon (given (start e)) ≡ length (take (horizon (given (start e))) xs)
 part e xs h = sym (length-take-le (horizon (given (start e))) xs h)
 
-slice-relend-prefix-close-into : tie.Need-slice-relend-prefix-close-into
-slice-relend-prefix-close-into c = search needs
-
 slice-aggregate-close-into : tie.Need-slice-aggregate-close-into
 slice-aggregate-close-into c = part (c .before) _ (passes (c .before) .1 .1 .0 .0)
-
-slice-relend-prefix-close-into-2 : tie.Need-slice-relend-prefix-close-into-2
-slice-relend-prefix-close-into-2 c = search needs
 
 slice-aggregate-close-into-2 : tie.Need-slice-aggregate-close-into-2
 slice-aggregate-close-into-2 c = part (c .before .before) _ (passes (c .before .before) .1 .1 .0 .1)
@@ -85,9 +73,6 @@ close-into-requires c κs =
       (ok .0 .1, uppers),
       record { lowers = ok .1 .0; new-uppers = sym (part e _ (ok .1 .1 .0 .0)); new-lowers = sym (part e _ (ok .1 .1 .0 .1)) },
     )
-
-closing-for-requires : tie.Need-closing-for-requires
-closing-for-requires c κs = search needs
 
 same-length : tie.Need-same-length
 same-length c =
@@ -120,16 +105,16 @@ close-spec =
     returns-3
     returns-4
     returns-5
-    exceeds-requires
+    (λ c κs. search needs)
     returns-6
-    exceeds-requires-2
+    (λ c κs. search needs)
     returns-7
-    slice-relend-prefix-close-into
+    (λ c. search needs)
     slice-aggregate-close-into
-    slice-relend-prefix-close-into-2
+    (λ c. search needs)
     slice-aggregate-close-into-2
     close-into-requires
-    closing-for-requires
+    (λ c κs. search needs)
     same-length
     same-length-2
     returns-8)

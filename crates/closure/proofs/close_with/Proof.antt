@@ -8,12 +8,6 @@ use Rattle.closure.proofs.Laws.{ready, ended-with, same-pairs}
 use Rattle.closure.proofs.close_with.Statement.{statement}
 use Rattle.closure.proofs.close_with.Tie as tie
 
-copy-requires : tie.Need-copy-requires
-copy-requires c κs = search needs
-
-copy-requires-2 : tie.Need-copy-requires-2
-copy-requires-2 c κs = search needs
-
 -- The places before the rounds: the function's start, and the two copies.
 abbrev start : tie.After-copy → tie.Start
 start a = a .before .before .before .before .before .before .before .before .before .before
@@ -52,24 +46,6 @@ deliver-requires c κs =
       new-lowers = omega (arith, kept .0, uppers, pre);
     }
 
-same-length : tie.Need-same-length
-same-length c = search needs
-
-same-length-2 : tie.Need-same-length-2
-same-length-2 c = search needs
-
-same-length-3 : tie.Need-same-length-3
-same-length-3 c = search needs
-
-same-length-4 : tie.Need-same-length-4
-same-length-4 c = search needs
-
-same-length-5 : tie.Need-same-length-5
-same-length-5 c = search needs
-
-same-length-6 : tie.Need-same-length-6
-same-length-6 c = search needs
-
 returns : tie.Need-returns
 returns c =
     let d = c .before .before .before .before in
@@ -81,14 +57,14 @@ pub close-with-spec : {M : Type 1} → statement M
 close-with-spec =
     tie.close
     (tie.spec
-    copy-requires
-    copy-requires-2
+    (λ c κs. search needs)
+    (λ c κs. search needs)
     run-requires
     deliver-requires
-    same-length
-    same-length-2
-    same-length-3
-    same-length-4
-    same-length-5
-    same-length-6
+    (λ c. search needs)
+    (λ c. search needs)
+    (λ c. search needs)
+    (λ c. search needs)
+    (λ c. search needs)
+    (λ c. search needs)
     returns)

@@ -7,12 +7,6 @@ use Rattle.closure.proofs.Laws.{new-figure}
 use Rattle.closure.proofs.rounds.new_figures.Statement.{statement}
 use Rattle.closure.proofs.rounds.new_figures.Tie as tie
 
-with-sums-requires : tie.Need-with-sums-requires
-with-sums-requires c κs = search needs
-
-with-differences-requires : tie.Need-with-differences-requires
-with-differences-requires c κs = search needs
-
 returns : tie.Need-returns
 returns c =
     let args = c .before .before .before .before .args in
@@ -23,4 +17,4 @@ returns c =
     )
 
 pub new-figures-spec : {M : Type 1} → statement M
-new-figures-spec = tie.close (tie.spec with-sums-requires with-differences-requires returns)
+new-figures-spec = tie.close (tie.spec (λ c κs. search needs) (λ c κs. search needs) returns)

@@ -22,30 +22,6 @@ abbrev μ-loop : tie.MeasureT-loop
 loop-holds : tie.Need-loop-holds Inv-loop μ-loop
 loop-holds c = (search needs, unfilled _ _, unfilled _ _)
 
-add-new-figures : tie.Need-add-new-figures Inv-loop μ-loop
-add-new-figures c = search needs
-
-new-figures-requires : tie.Need-new-figures-requires Inv-loop μ-loop
-new-figures-requires c κs = search needs
-
-mul-new-upper : tie.Need-mul-new-upper Inv-loop μ-loop
-mul-new-upper c = search needs
-
-slice-write-new-upper : tie.Need-slice-write-new-upper Inv-loop μ-loop
-slice-write-new-upper c = search needs
-
-mul-new-lower : tie.Need-mul-new-lower Inv-loop μ-loop
-mul-new-lower c = search needs
-
-slice-write-new-lower : tie.Need-slice-write-new-lower Inv-loop μ-loop
-slice-write-new-lower c = search needs
-
-add-i : tie.Need-add-i Inv-loop μ-loop
-add-i c = search needs
-
-loop-less : tie.Need-loop-less Inv-loop μ-loop
-loop-less c = search needs
-
 loop-again : tie.Need-loop-again Inv-loop μ-loop
 loop-again c =
     let head = c .before .before .loop in (
@@ -53,12 +29,6 @@ loop-again c =
       stored (head .inv .1) _ (omega arith) (c .new-figures .ensures .0),
       stored (head .inv .2) _ (omega arith) (c .new-figures .ensures .1),
     )
-
-same-length : tie.Need-same-length Inv-loop μ-loop
-same-length c = search needs
-
-same-length-2 : tie.Need-same-length-2 Inv-loop μ-loop
-same-length-2 c = search needs
 
 returns : tie.Need-returns Inv-loop μ-loop
 unfolding round
@@ -75,15 +45,15 @@ round-spec =
     Inv-loop
     μ-loop
     loop-holds
-    add-new-figures
-    new-figures-requires
-    mul-new-upper
-    slice-write-new-upper
-    mul-new-lower
-    slice-write-new-lower
-    add-i
-    loop-less
+    (λ c. search needs)
+    (λ c κs. search needs)
+    (λ c. search needs)
+    (λ c. search needs)
+    (λ c. search needs)
+    (λ c. search needs)
+    (λ c. search needs)
+    (λ c. search needs)
     loop-again
-    same-length
-    same-length-2
+    (λ c. search needs)
+    (λ c. search needs)
     returns)

@@ -27,21 +27,6 @@ loop-holds c =
     let start = c .before .before .before .before in
     (begins (pairOf (start .args .upper .now) (start .args .lower .now)) (start .pre .1 .lowers) (start .pre .0 .1), refl, refl, refl)
 
-crossed-requires : tie.Need-crossed-requires Inv-loop μ-loop
-crossed-requires c κs = search needs
-
-same-length : tie.Need-same-length Inv-loop μ-loop
-same-length c = search needs
-
-same-length-2 : tie.Need-same-length-2 Inv-loop μ-loop
-same-length-2 c = search needs
-
-same-length-3 : tie.Need-same-length-3 Inv-loop μ-loop
-same-length-3 c = search needs
-
-same-length-4 : tie.Need-same-length-4 Inv-loop μ-loop
-same-length-4 c = search needs
-
 returns : tie.Need-returns Inv-loop μ-loop
 returns c =
     let head = c .before .before .before .before .loop in
@@ -53,18 +38,6 @@ advance-requires c κs =
     let held = went-on .before .before .before .before .loop .inv .0 in
     let uncrossed = tells-false _ _ (went-on .if1 .left) (went-on .before .crossed .ensures) in
     ((held .bounded, lower-bounded _ (held .even) uncrossed (held .bounded)), search needs)
-
-same-length-5 : tie.Need-same-length-5 Inv-loop μ-loop
-same-length-5 c = search needs
-
-same-length-6 : tie.Need-same-length-6 Inv-loop μ-loop
-same-length-6 c = search needs
-
-same-length-7 : tie.Need-same-length-7 Inv-loop μ-loop
-same-length-7 c = search needs
-
-same-length-8 : tie.Need-same-length-8 Inv-loop μ-loop
-same-length-8 c = search needs
 
 -- The turn's beginning, seen from its round, and that no least was above its ceiling there.
 abbrev head : tie.After-advance Inv-loop μ-loop → tie.At-loop Inv-loop μ-loop
@@ -108,17 +81,17 @@ run-spec =
     Inv-loop
     μ-loop
     loop-holds
-    crossed-requires
-    same-length
-    same-length-2
-    same-length-3
-    same-length-4
+    (λ c κs. search needs)
+    (λ c. search needs)
+    (λ c. search needs)
+    (λ c. search needs)
+    (λ c. search needs)
     returns
     advance-requires
-    same-length-5
-    same-length-6
-    same-length-7
-    same-length-8
+    (λ c. search needs)
+    (λ c. search needs)
+    (λ c. search needs)
+    (λ c. search needs)
     returns-2
     add-rounds
     loop-less

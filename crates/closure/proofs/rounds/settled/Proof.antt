@@ -6,12 +6,6 @@ use Rattle.closure.proofs.Laws.{tells-true, tells-false, pairs-told}
 use Rattle.closure.proofs.rounds.settled.Statement.{statement}
 use Rattle.closure.proofs.rounds.settled.Tie as tie
 
-same-requires : tie.Need-same-requires
-same-requires c κs = search needs
-
-same-requires-2 : tie.Need-same-requires-2
-same-requires-2 c κs = search needs
-
 returns : tie.Need-returns
 returns c =
     let args = c .before .before .before .before .before .before .before .args in
@@ -23,4 +17,4 @@ returns-2 : tie.Need-returns-2
 returns-2 c q = tells-false _ _ (c .if1 .left) (c .before .same .ensures) (ap (λ p. p .upper) q)
 
 pub settled-spec : {M : Type 1} → statement M
-settled-spec = tie.close (tie.spec same-requires same-requires-2 returns returns-2)
+settled-spec = tie.close (tie.spec (λ c κs. search needs) (λ c κs. search needs) returns returns-2)

@@ -7,15 +7,6 @@ use Rattle.closure.proofs.Laws.{figure-bounded}
 use Rattle.closure.proofs.rounds.sum_at.Statement.{statement}
 use Rattle.closure.proofs.rounds.sum_at.Tie as tie
 
-at-requires : tie.Need-at-requires
-at-requires c κs = search needs
-
-sub-at : tie.Need-sub-at
-sub-at c = search needs
-
-at-requires-2 : tie.Need-at-requires-2
-at-requires-2 c κs = search needs
-
 add-result : tie.Need-add-result
 add-result c =
     let us = c .before .before .before .args .figures .now in
@@ -24,8 +15,5 @@ add-result c =
     let bounded = c .before .before .before .pre .0 in
     omega (arith, figure-bounded us bounded a, figure-bounded us bounded (d - a))
 
-returns : tie.Need-returns
-returns c = search needs
-
 pub sum-at-spec : {M : Type 1} → statement M
-sum-at-spec = tie.close (tie.spec at-requires sub-at at-requires-2 add-result returns)
+sum-at-spec = tie.close (tie.spec (λ c κs. search needs) (λ c. search needs) (λ c κs. search needs) add-result (λ c. search needs))

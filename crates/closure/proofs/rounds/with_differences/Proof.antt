@@ -20,30 +20,9 @@ Inv-loop upper lower d most₀ least₀ longest t₀ most least t =
 abbrev μ-loop : tie.MeasureT-loop
 μ-loop upper lower d most₀ least₀ longest t₀ most least t = longest + 1 - t
 
-sub-longest : tie.Need-sub-longest Inv-loop μ-loop
-sub-longest c = search needs
-
 loop-holds : tie.Need-loop-holds Inv-loop μ-loop
 unfolding fold
 loop-holds c = (omega arith, omega arith, refl, refl)
-
-difference-at-requires : tie.Need-difference-at-requires Inv-loop μ-loop
-difference-at-requires c κs = search needs
-
-smaller-requires : tie.Need-smaller-requires Inv-loop μ-loop
-smaller-requires c κs = search needs
-
-difference-at-requires-2 : tie.Need-difference-at-requires-2 Inv-loop μ-loop
-difference-at-requires-2 c κs = search needs
-
-larger-requires : tie.Need-larger-requires Inv-loop μ-loop
-larger-requires c κs = search needs
-
-add-t : tie.Need-add-t Inv-loop μ-loop
-add-t c = search needs
-
-loop-less : tie.Need-loop-less Inv-loop μ-loop
-loop-less c = search needs
 
 loop-again : tie.Need-loop-again Inv-loop μ-loop
 loop-again c =
@@ -70,13 +49,13 @@ with-differences-spec =
     (tie.spec
     Inv-loop
     μ-loop
-    sub-longest
+    (λ c. search needs)
     loop-holds
-    difference-at-requires
-    smaller-requires
-    difference-at-requires-2
-    larger-requires
-    add-t
-    loop-less
+    (λ c κs. search needs)
+    (λ c κs. search needs)
+    (λ c κs. search needs)
+    (λ c κs. search needs)
+    (λ c. search needs)
+    (λ c. search needs)
     loop-again
     returns)

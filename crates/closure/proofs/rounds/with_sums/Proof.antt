@@ -17,33 +17,9 @@ Inv-loop upper lower d most₀ least₀ a₀ most least a =
 abbrev μ-loop : tie.MeasureT-loop
 μ-loop upper lower d most₀ least₀ a₀ most least a = d - a
 
-at-requires : tie.Need-at-requires Inv-loop μ-loop
-at-requires c κs = search needs
-
-at-requires-2 : tie.Need-at-requires-2 Inv-loop μ-loop
-at-requires-2 c κs = search needs
-
 loop-holds : tie.Need-loop-holds Inv-loop μ-loop
 unfolding fold
 loop-holds c = (omega arith, omega arith, c .before .at .ensures, c .at2 .ensures)
-
-sum-at-requires : tie.Need-sum-at-requires Inv-loop μ-loop
-sum-at-requires c κs = search needs
-
-smaller-requires : tie.Need-smaller-requires Inv-loop μ-loop
-smaller-requires c κs = search needs
-
-sum-at-requires-2 : tie.Need-sum-at-requires-2 Inv-loop μ-loop
-sum-at-requires-2 c κs = search needs
-
-larger-requires : tie.Need-larger-requires Inv-loop μ-loop
-larger-requires c κs = search needs
-
-add-a : tie.Need-add-a Inv-loop μ-loop
-add-a c = search needs
-
-loop-less : tie.Need-loop-less Inv-loop μ-loop
-loop-less c = search needs
 
 loop-again : tie.Need-loop-again Inv-loop μ-loop
 loop-again c =
@@ -68,14 +44,14 @@ with-sums-spec =
     (tie.spec
     Inv-loop
     μ-loop
-    at-requires
-    at-requires-2
+    (λ c κs. search needs)
+    (λ c κs. search needs)
     loop-holds
-    sum-at-requires
-    smaller-requires
-    sum-at-requires-2
-    larger-requires
-    add-a
-    loop-less
+    (λ c κs. search needs)
+    (λ c κs. search needs)
+    (λ c κs. search needs)
+    (λ c κs. search needs)
+    (λ c. search needs)
+    (λ c. search needs)
     loop-again
     returns)
