@@ -1,6 +1,7 @@
 -- What is proved of closing, and the laws that the functions' proofs cite. Assumes nothing.
 pub mod Said
 pub mod Given
+pub mod Promised
+mod Answered
 mod Laws
 mod Progress
-mod Answered

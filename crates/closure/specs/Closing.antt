@@ -85,10 +85,10 @@ closed n q found =
           };
     }
 
--- Closing the pair p: the first question that is answered no gives its number, else the answer to question 5 the closure.
+-- Closing the pair p: the first question that is answered no gives its number, else the answer to question 5 gives the closure.
 unfoldable pub closing : Pair → Pair → Answer
 closing p found =
     ⊎-elim
-    (λ yeses. let closure : Closes p = yeses .1 .1 .1 .1 .0 in closed (closure .0) (closure .1) found)
-    (λ refusal. refused (refusal .0) found)
+    (λ yeses. let fifth : Closes p = yeses .1 .1 .1 .1 .0 in closed (fifth .0) (fifth .1) found)
+    (λ first-no. refused (first-no .0) found)
     (ask (questions p found))

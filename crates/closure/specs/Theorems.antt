@@ -11,9 +11,13 @@ use Rattle.curves.specs.Rounds.{whole, Arrives, Causal}
 use Rattle.curves.specs.Questions.{AllYes, FirstNo}
 use Rattle.closure.specs.Closing.{question1, question2, question3, question4, questions, refused, closed, closing}
 
--- Closing the pair p into result lists found to hold `found` gives a closure: the first H entries of what it leaves there.
-abbrev pub Closed : Pair → Pair → Type 0
-Closed p found = closing p found .number ≡ 0
+-- The lists pass questions 1 to 4: those of the pair p, with result lists found to hold `found`.
+abbrev pub Passes : Pair → Pair → Type 0
+Passes p found = AllYes (question1 p ∷ question2 p ∷ question3 p found ∷ question4 p ∷ [])
+
+-- A closure is given: the first H entries of the result lists.
+abbrev pub GivesClosure : Pair → Pair → Type 0
+GivesClosure p found = closing p found .number ≡ 0
 
 abbrev pub closureOf : Pair → Pair → Pair
 closureOf p found =
@@ -22,41 +26,42 @@ closureOf p found =
       lower = take (horizon p) (closing p found .results .lower);
     }
 
--- The lists pass questions 1 to 4.
-abbrev pub Passes : Pair → Pair → Type 0
-Passes p found = AllYes (question1 p ∷ question2 p ∷ question3 p found ∷ question4 p ∷ [])
+-- ---- 1. Demand 2: "The closure is what document 01's rounds arrive at", with their count; and what they arrive at is given.
+abbrev pub GivesWhatArrives : Type 0
+GivesWhatArrives =
+    (p found : Pair) (n : ℕ) (q : Pair) → Passes p found → Arrives whole p n q → closing p found ≡ closed n q found
 
--- No unbounded stream conforms to p.
-abbrev pub NoStream : Pair → Type 0
-NoStream p = (s : Stream) → Conforms∞ p (s .counts) → ⊥
-
--- ---- 1. Demand 2: "The closure is what document 01's rounds arrive at", and the rounds are counted.
 abbrev pub ClosureIsArrivedAt : Type 0
 ClosureIsArrivedAt =
-    (p found : Pair) → Closed p found
-    → Arrives whole p (closing p found .rounds) (closureOf p found) × (closing p found ≡ closed (closing p found .rounds) (closureOf p found) found)
+    (p found : Pair) → GivesClosure p found
+    → Arrives whole p (closing p found .rounds) (closureOf p found)
+    × (closing p found ≡ closed (closing p found .rounds) (closureOf p found) found)
 
--- ---- 4. Demand 3: "closing is refused exactly when no unbounded stream conforms, and then with 5; else it gives the closure".
-abbrev pub RefusedIffNoStream : Type 0
-RefusedIffNoStream = (p found : Pair) → Passes p found → (closing p found ≡ refused 5 found) ↔ NoStream p
-
-abbrev pub ElseClosed : Type 0
-ElseClosed = (p found : Pair) → Passes p found → (closing p found ≡ refused 5 found) ⊎ Closed p found
-
--- Demand 1: refused with n exactly when question n is the first that is answered no.
+-- ---- 4. Demand 1: refused with n exactly when question n is the first that is answered no; else a closure is given.
 abbrev pub RefusedIffFirstNo : Type 0
 RefusedIffFirstNo = (p found : Pair) (n : ℕ) → ((1 ≤ n) × (closing p found ≡ refused n found)) ↔ FirstNo (questions p found) n
 
--- ---- 5. One conforming stream has, for every window of d ticks, the closure's ceiling of d in its first d ticks; another has the leasts.
+abbrev pub ClosureIffAllYes : Type 0
+ClosureIffAllYes = (p found : Pair) → GivesClosure p found ↔ AllYes (questions p found)
+
+-- Demand 3: "For lists that pass document 01's questions 1 to 4, closing is refused exactly when no unbounded stream conforms, and
+-- then with 5; else it gives the closure."
+abbrev pub RefusedIffNoStream : Type 0
+RefusedIffNoStream =
+    (p found : Pair) → Passes p found → (closing p found ≡ refused 5 found) ↔ ((s : Stream) → Conforms∞ p (s .counts) → ⊥)
+
+abbrev pub ElseClosed : Type 0
+ElseClosed = (p found : Pair) → Passes p found → (closing p found ≡ refused 5 found) ⊎ GivesClosure p found
+
+-- ---- 5. One conforming stream has, for every window d, the closure's ceiling of d in its first d ticks; another has the leasts.
+abbrev pub Follows : Pair → (ℕ → ℕ) → Type 0
+Follows p g = (s : Stream) × Conforms∞ p (s .counts) × ((d : ℕ) → d ≤ horizon p → sum (s .counts) 0 d ≡ g d)
+
 abbrev pub FollowsCeilings : Type 0
-FollowsCeilings =
-    (p found : Pair) → Closed p found
-    → (s : Stream) × Conforms∞ p (s .counts) × ((d : ℕ) → d ≤ horizon p → sum (s .counts) 0 d ≡ ceiling (closureOf p found) d)
+FollowsCeilings = (p found : Pair) → GivesClosure p found → Follows p (ceiling (closureOf p found))
 
 abbrev pub FollowsLeasts : Type 0
-FollowsLeasts =
-    (p found : Pair) → Closed p found
-    → (s : Stream) × Conforms∞ p (s .counts) × ((d : ℕ) → d ≤ horizon p → sum (s .counts) 0 d ≡ least (closureOf p found) d)
+FollowsLeasts = (p found : Pair) → GivesClosure p found → Follows p (least (closureOf p found))
 
 -- Demand 3: "each of its figures is met in a window of some such stream".
 abbrev pub MetBySome : Pair → ℕ → ℕ → Type 0
@@ -64,31 +69,36 @@ MetBySome p d x = (s : Stream) × Conforms∞ p (s .counts) × MetIn (s .counts)
 
 abbrev pub FiguresMet : Type 0
 FiguresMet =
-    (p found : Pair) → Closed p found → (d : ℕ) → 1 ≤ d → d ≤ horizon p
+    (p found : Pair) → GivesClosure p found → (d : ℕ) → 1 ≤ d → d ≤ horizon p
     → MetBySome p d (ceiling (closureOf p found) d) × MetBySome p d (least (closureOf p found) d)
 
 -- ---- 6. Demand 3: "a finite stream conforms to it exactly when it begins an unbounded stream conforming to the pair".
 abbrev pub ConformsIffBegins : Type 0
 ConformsIffBegins =
-    (p found : Pair) → Closed p found → (xs : List ℕ)
+    (p found : Pair) → GivesClosure p found → (xs : List ℕ)
     → Conforms (closureOf p found) xs ↔ ((s : Stream) × Begins xs (s .counts) × Conforms∞ p (s .counts))
 
--- ---- 7. Demand 3: "Two closures given for pairs with one horizon are equal exactly when the same unbounded streams conform to both pairs."
+-- ---- 7. Demand 3: "Two closures given for pairs with one horizon are equal exactly when the same unbounded streams conform to both
+-- pairs."
 abbrev pub EqualIffSameStreams : Type 0
 EqualIffSameStreams =
-    (p found p′ found′ : Pair) → Closed p found → Closed p′ found′ → horizon p ≡ horizon p′
+    (p found p′ found′ : Pair) → GivesClosure p found → GivesClosure p′ found′ → horizon p ≡ horizon p′
     → Equal (closureOf p found) (closureOf p′ found′) ↔ ((s : Stream) → Conforms∞ p (s .counts) ↔ Conforms∞ p′ (s .counts))
 
 -- ---- 8. A closure is causal, passes questions 1, 2 and 4, and closing it gives it back after 0 rounds.
 abbrev pub GivenIsCausal : Type 0
-GivenIsCausal = (p found : Pair) → Closed p found → Causal (closureOf p found)
+GivenIsCausal = (p found : Pair) → GivesClosure p found → Causal (closureOf p found)
 
 abbrev pub GivenPasses : Type 0
 GivenPasses =
-    (p found : Pair) → Closed p found
+    (p found : Pair) → GivesClosure p found
     → AllYes (question1 (closureOf p found) ∷ question2 (closureOf p found) ∷ question4 (closureOf p found) ∷ [])
 
 abbrev pub ClosedAgain : Type 0
 ClosedAgain =
-    (p found again : Pair) → Closed p found → horizon p ≤ length (again .upper) → horizon p ≤ length (again .lower)
+    (p found again : Pair) → GivesClosure p found → horizon p ≤ length (again .upper) → horizon p ≤ length (again .lower)
     → closing (closureOf p found) again ≡ closed 0 (closureOf p found) again
+
+-- A pair is causal exactly where it is its own closure.
+abbrev pub CausalIffGivenBack : Type 0
+CausalIffGivenBack = (p found : Pair) → Passes p found → Causal p ↔ (GivesClosure p found × Equal (closureOf p found) p)

@@ -10,6 +10,11 @@ ghost use Rattle.closure.specs.Closing.{closing};
 ghost use Rattle.closure.specs.Answers.{answer, closingFor};
 ghost use Rattle.closure.specs.Steps.{pairOf, Bounded, Exceeds, Either, SameLengths, Delivered, EndedWith};
 
+// The longest horizon, and the largest figure of a pair.
+const MAX_HORIZON: usize = 256;
+
+const FIGURE_LIMIT: u32 = 16_776_960;
+
 // What closing answers: the closure is in the result lists, or document 01's question is answered no.
 pub enum Closing {
     // After so many rounds that changed a figure.
@@ -36,7 +41,7 @@ pub fn close(ceilings: &[u32], leasts: &[u32], upper: &mut [u32], lower: &mut [u
     if h < 1 {
         return Closing::UpperLength;
     }
-    if 256 < h {
+    if MAX_HORIZON < h {
         return Closing::UpperLength;
     }
     if leasts.len() != h {
@@ -138,10 +143,10 @@ fn deliver(
 }
 
 // 256 figures to compute with.
-fn zeros() -> [u32; 256]
+fn zeros() -> [u32; MAX_HORIZON]
     ensures { λ r. ⌜ length r ≡ 256 ⌝ }
 {
-    [0u32; 256]
+    [0u32; MAX_HORIZON]
 }
 
 // Whether some figure is above 16,776,960.
@@ -150,7 +155,7 @@ fn exceeds(figures: &[u32]) -> bool
 {
     let mut i = 0;
     while i < figures.len() {
-        if 16_776_960 < figures[i] {
+        if FIGURE_LIMIT < figures[i] {
             return true;
         }
         i += 1;

@@ -11,4 +11,4 @@ pub mod CutOff
 pub mod Agreement
 pub mod Arrival
 pub mod Closure
-pub mod Answers
+pub mod Asked

@@ -1,7 +1,6 @@
--- The rounds (document 01, "The closure"), stated once over what they compute with: document 01's whole numbers, and the natural numbers with
--- differences cut off at 0 that the code computes with.
+-- The rounds (document 01, "The closure"), stated once over what they compute with: document 01's whole numbers, and the natural
+-- numbers with differences cut off at 0 that the code computes with.
 use Prim.Native.Nat.{ℕ, zero, suc, _+_, _-_, _≤_, _<_, min, max}
-use mathlib.Core.Path.{_≡_}
 use mathlib.Core.Bool.{cond}
 use lib.IntN.{ℤ, pos, _+ℤ_, _-ℤ_}
 use lib.Signed.{leZ, _<ℤ_}
@@ -10,11 +9,13 @@ use Rattle.curves.specs.Pairs.{Curves, horizon, figure, Same, Pair, ceil
 
 pub record Arithmetic : Type 1 where
   pub Number : Type 0
+  -- A figure as such a number.
   pub of : ℕ → Number
   pub plus : Number → Number → Number
   pub minus : Number → Number → Number
   pub smaller : Number → Number → Number
   pub larger : Number → Number → Number
+  -- The first is strictly below the second.
   pub Below : Number → Number → Type 0
 
 -- "Differences are whole numbers and may be negative."
@@ -30,6 +31,7 @@ whole =
       Below = _<ℤ_;
     }
 
+-- A difference below 0 is 0.
 abbrev pub cutOff : Arithmetic
 cutOff =
     record {
@@ -43,11 +45,12 @@ cutOff =
     }
 
 module _ (A : Arithmetic) where
-  -- "New ceiling of a window d: the smallest of the old ceiling of d; ceiling of a plus ceiling of d − a, for 1 ≤ a < d; ceiling of d + t minus
-  -- least of t, for t ≥ 1 and d + t ≤ H." The new least is the same with the two curves, and smallest and largest, exchanged.
+  -- "New ceiling of a window d: the smallest of the old ceiling of d; ceiling of a plus ceiling of d − a, for 1 ≤ a < d; ceiling of
+  -- d + t minus least of t, for t ≥ 1 and d + t ≤ H." With the two curves, and smallest and largest, exchanged it is the new least.
   unfoldable pub newFigure : (A .Number → A .Number → A .Number) → ℕ → (ℕ → A .Number) → (ℕ → A .Number) → ℕ → A .Number
   newFigure best H own other d =
-      fold best (fold best (own d) (λ a. A .plus (own a) (own (d - a))) (d - 1)) (λ t. A .minus (own (d + t)) (other t)) (H - d)
+      fold best (fold best (own d) (λ a. A .plus (own a) (own (d - a))) (d - 1))
+      (λ t. A .minus (own (d + t)) (other t)) (H - d)
 
   abbrev pub upperAt : Curves (A .Number) → ℕ → A .Number
   upperAt c d = figure (A .of 0) (c .upper) d
@@ -74,7 +77,7 @@ module _ (A : Arithmetic) where
   abbrev pub Settled : Curves (A .Number) → Type 0
   Settled c = Same (A .of 0) (round c) c
 
-  -- A pair's figures, as these numbers.
+  -- The figures of a pair.
   unfoldable pub given : Pair → Curves (A .Number)
   given p =
       record {
@@ -82,13 +85,16 @@ module _ (A : Arithmetic) where
         lower = table (λ d. A .of (least p d)) (horizon p);
       }
 
-  -- The figures after n rounds, if so many are run.
+  -- The figures of a pair after n rounds, if so many are run; those of q.
   unfoldable pub after : ℕ → Pair → Curves (A .Number)
   after zero p = given p
   after (suc n) p = round (after n p)
 
-  -- n rounds are run, and each changes a figure: "rounds go on until one changes nothing or some least is above its ceiling, the pair as given
-  -- included".
+  abbrev pub HasAfter : ℕ → Pair → Pair → Type 0
+  HasAfter n p q = Same (A .of 0) (after n p) (given q)
+
+  -- n rounds are run, and each changes a figure: "rounds go on until one changes nothing or some least is above its ceiling, the pair
+  -- as given included".
   pub record Runs (p : Pair) (n : ℕ) : Type 0 where
     pub uncrossed : (k : ℕ) → k < n → ¬ Crossed (after k p)
     pub changes : (k : ℕ) → k < n → ¬ Settled (after k p)
@@ -98,7 +104,7 @@ module _ (A : Arithmetic) where
     pub runs : Runs p n
     pub uncrossed : ¬ Crossed (after n p)
     pub settled : Settled (after n p)
-    pub figures : Same (A .of 0) (after n p) (given q)
+    pub figures : HasAfter n p q
 
   -- The rounds end with some least above its ceiling, after n that changed a figure; there is no closure.
   pub record Crosses (p : Pair) (n : ℕ) : Type 0 where

@@ -3,10 +3,9 @@ use Prim.Native.Nat.{ℕ, _≤_}
 use mathlib.Core.Path.{_≡_}
 use mathlib.Core.List.{List, [], _∷_, _++_}
 use mathlib.Core.Logic.{_↔_, _⊎_}
-use lib.IntN.{pos}
-use Rattle.curves.specs.Pairs.{Pair, Equal, Same, horizon, slack}
+use Rattle.curves.specs.Pairs.{Pair, Equal, horizon, slack}
 use Rattle.curves.specs.Conformance.{Conforms, Conforms∞}
-use Rattle.curves.specs.Rounds.{whole, cutOff, given, after, Crossed, Arrives, Crosses, Causal}
+use Rattle.curves.specs.Rounds.{whole, cutOff, after, HasAfter, Crossed, Arrives, Crosses, Causal}
 
 -- The rounds of p end with a closure.
 abbrev pub Closes : Pair → Type 0
@@ -29,9 +28,9 @@ CrossesOnce = (p : Pair) (m n : ℕ) → Crosses whole p m → Crosses whole p n
 abbrev pub RoundsWithinSlack : Type 0
 RoundsWithinSlack = (p q : Pair) (n : ℕ) → Arrives whole p n q → n ≤ slack p
 
--- ---- 2. Rounds keep exactly the same unbounded conforming streams: q holds the figures of p after n rounds; where they cross, no stream conforms.
+-- ---- 2. Rounds, one or any number, keep exactly the same unbounded conforming streams; where they cross, no stream conforms.
 abbrev pub RoundsKeepStreams : Type 0
-RoundsKeepStreams = (p q : Pair) (n : ℕ) → Same (pos 0) (after whole n p) (given whole q) → (s : ℕ → ℕ) → Conforms∞ p s ↔ Conforms∞ q s
+RoundsKeepStreams = (p q : Pair) (n : ℕ) → HasAfter whole n p q → (s : ℕ → ℕ) → Conforms∞ p s ↔ Conforms∞ q s
 
 abbrev pub CrossedHasNoStream : Type 0
 CrossedHasNoStream = (p : Pair) (n : ℕ) → Crossed whole (after whole n p) → (s : ℕ → ℕ) → Conforms∞ p s → ⊥
@@ -53,7 +52,8 @@ CausalIffOwnClosure = (p : Pair) → Causal p ↔ ((n : ℕ) × Arrives whole p 
 abbrev pub CausalTakesNoRound : Type 0
 CausalTakesNoRound = (p : Pair) → Causal p → Arrives whole p 0 p
 
--- ---- 9. One more tick: a finite stream that conforms to a causal pair can go on with the counts from some lo to some hi, of which there is one.
+-- ---- 9. One more tick: a finite stream that conforms to a causal pair can go on with the counts from some lo to some hi, and with no
+-- other; there is at least one.
 abbrev pub OneMoreTick : Type 0
 OneMoreTick =
     (p : Pair) (xs : List ℕ) → 1 ≤ horizon p → Causal p → Conforms p xs

@@ -1,8 +1,8 @@
--- What is computed over the numbers of a range.
+-- What is computed over the numbers 1 to n.
 use Prim.Native.Nat.{ℕ, zero, suc}
 use mathlib.Core.List.{List, [], _∷_, _++_}
 
--- x and f 1 to f n, put together one after the other by op: with min the smallest of them, with max the largest, with + their sum.
+-- x and f 1 to f n, put together one after the other by op: with min their smallest, with max their largest, from 0 with + their sum.
 unfoldable pub fold {ℓ} : {A : Type ℓ} → (A → A → A) → A → (ℕ → A) → ℕ → A
 fold op x f zero = x
 fold op x f (suc n) = op (fold op x f n) (f (suc n))
