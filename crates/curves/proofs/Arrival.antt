@@ -17,7 +17,7 @@ use Rattle.curves.proofs.Weight.{weight, weight-falls, slack-falls, bel
 use Rattle.curves.proofs.Agreement.{given-equal, same-given, arrives-agree, crosses-agree}
 
 -- ---- whether a pair's figures cross, and whether a round changes one, can be told
-pub crossed? : (c : Pair) → (¬ Crossed cutOff c) ⊎ Crossed cutOff c
+unfoldable pub crossed? : (c : Pair) → (¬ Crossed cutOff c) ⊎ Crossed cutOff c
 crossed? c = ⊎-elim (λ h. inl (λ x. none h x)) inr (every (λ d. least c d ≤ ceiling c d) (Crossed cutOff c) (horizon c) one)
   where
     none : ((d : ℕ) → 1 ≤ d → d ≤ horizon c → least c d ≤ ceiling c d) → Crossed cutOff c → ⊥
@@ -27,7 +27,7 @@ crossed? c = ⊎-elim (λ h. inl (λ x. none h x)) inr (every (λ d. least c d �
     one d u v =
         elim (decLe (least c d) (ceiling c d)) [ yes h ↦ inl h | no h ↦ inr (record { window = d; positive = u; within = v; above = omega arith }) ]
 
-pub equal? : (c e : Pair) → horizon c ≡ horizon e → Equal c e ⊎ ¬ Equal c e
+unfoldable pub equal? : (c e : Pair) → horizon c ≡ horizon e → Equal c e ⊎ ¬ Equal c e
 equal? c e s = ⊎-elim (λ h. inl (record { horizons = s; uppers = λ d u v. h d u v .0; lowers = λ d u v. h d u v .1 })) inr (every _ (¬ Equal c e) (horizon c) one)
   where
     one : (d : ℕ) → 1 ≤ d → d ≤ horizon c → ((ceiling c d ≡ ceiling e d) × (least c d ≡ least e d)) ⊎ ¬ Equal c e

@@ -12,3 +12,5 @@ pub mod Agreement
 pub mod Arrival
 pub mod Closure
 pub mod Asked
+pub mod Computed
+mod Examples

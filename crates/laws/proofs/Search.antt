@@ -6,7 +6,7 @@ use mathlib.Core.Logic.{_⊎_, inl, inr, ⊎-elim}
 use native.Mathlib.Nat.{le-refl, le-step, le-suc-iff, le-of-suc-le-suc, eq-or-lt-of-le}
 use native.Mathlib.Omega.{arith}
 
-pub every : (P : ℕ → Type 0) (Q : Type 0) (n : ℕ) → ((d : ℕ) → 1 ≤ d → d ≤ n → P d ⊎ Q) → ((d : ℕ) → 1 ≤ d → d ≤ n → P d) ⊎ Q
+unfoldable pub every : (P : ℕ → Type 0) (Q : Type 0) (n : ℕ) → ((d : ℕ) → 1 ≤ d → d ≤ n → P d ⊎ Q) → ((d : ℕ) → 1 ≤ d → d ≤ n → P d) ⊎ Q
 every P Q zero h = inl (λ d p q. absurd (omega arith))
 every P Q (suc n) h = ⊎-elim (λ all. ⊎-elim (λ last. inl (more all last)) inr (h (suc n) (omega arith) (le-refl (suc n)))) inr (every P Q n (λ d p q. h d p (le-step q)))
   where
@@ -21,5 +21,5 @@ below-suc P n all last k l =
     (λ i. all k (le-of-suc-le-suc i))
     (eq-or-lt-of-le l)
 
-pub every? : (P : ℕ → Type 0) (n : ℕ) → ((d : ℕ) → Dec (P d)) → Dec ((d : ℕ) → 1 ≤ d → d ≤ n → P d)
+unfoldable pub every? : (P : ℕ → Type 0) (n : ℕ) → ((d : ℕ) → Dec (P d)) → Dec ((d : ℕ) → 1 ≤ d → d ≤ n → P d)
 every? P n h = ⊎-elim (λ f. yes f) (λ g. no g) (every P (¬ ((d : ℕ) → 1 ≤ d → d ≤ n → P d)) n (λ d u v. elim (h d) [ yes x ↦ inl x | no x ↦ inr (λ f. x (f d u v)) ]))

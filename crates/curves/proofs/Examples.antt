@@ -1,0 +1,49 @@
+-- The definitions of specs/ at small examples: each holds by computation. Assumes nothing.
+use Prim.Native.Nat.{ℕ}
+use mathlib.Core.Path.{_≡_, refl}
+use mathlib.Core.List.{List, [], _∷_}
+use lib.IntN.{ℤ, pos, negsuc}
+use Rattle.laws.specs.Ranges.{fold, table}
+use Rattle.curves.specs.Streams.{sum, countsOf}
+use Rattle.curves.specs.Pairs.{Curves, Pair, figure, ceiling, least, slack}
+use Rattle.curves.specs.Rounds.{whole, cutOff, newFigure, round, given, after}
+
+-- The pair of the published triples, and one whose first round has a negative ceiling.
+abbrev published : Pair
+published = record { upper = 3 ∷ 6 ∷ 3 ∷ 12 ∷ 9 ∷ []; lower = 0 ∷ 0 ∷ 0 ∷ 0 ∷ 5 ∷ [] }
+
+abbrev falling : Pair
+falling = record { upper = 9 ∷ 1 ∷ []; lower = 5 ∷ 0 ∷ [] }
+
+window-sum : sum (countsOf (0 ∷ 2 ∷ 1 ∷ 0 ∷ 2 ∷ 0 ∷ [])) 1 4 ≡ 5
+unfolding sum
+window-sum = refl
+
+fourth-ceiling : ceiling published 4 ≡ 12
+unfolding figure
+fourth-ceiling = refl
+
+published-slack : slack published ≡ 28
+unfolding fold figure
+published-slack = refl
+
+negative-ceiling : after whole 1 falling .upper ≡ negsuc 3 ∷ pos 1 ∷ []
+unfolding after given round newFigure fold table figure
+negative-ceiling = refl
+
+-- Cut off at 0 the same ceiling is 0; the leasts are the same, and cross with either.
+cut-off-ceiling : after cutOff 1 falling ≡ record { upper = 0 ∷ 1 ∷ []; lower = 5 ∷ 10 ∷ [] }
+unfolding after given round newFigure fold table figure
+cut-off-ceiling = refl
+
+exact-leasts : after whole 1 falling .lower ≡ pos 5 ∷ pos 10 ∷ []
+unfolding after given round newFigure fold table figure
+exact-leasts = refl
+
+published-first : after whole 1 published .upper ≡ pos 3 ∷ pos 3 ∷ pos 3 ∷ pos 6 ∷ pos 9 ∷ []
+unfolding after given round newFigure fold table figure
+published-first = refl
+
+published-closed : after whole 4 published ≡ given whole (record { upper = 1 ∷ 2 ∷ 3 ∷ 4 ∷ 5 ∷ []; lower = 1 ∷ 2 ∷ 3 ∷ 4 ∷ 5 ∷ [] })
+unfolding after given round newFigure fold table figure
+published-closed = refl

@@ -1,0 +1,2 @@
+-- What the customer was promised, proved. Assumes nothing.
+pub mod Marked

@@ -1,0 +1,2 @@
+-- What the customer was promised, over the definitions that the promises cite.
+pub mod Marked
