@@ -1,13 +1,13 @@
 -- What `close` has to show at each of its ends, over plain lists. Assumes nothing.
-use Prim.Native.Nat.{ℕ, zero, suc, _≤_, _<_}
-use mathlib.Core.Path.{_≡_, refl, sym, ap, ap₂, _∙_, subst, subst₂}
+use Prim.Native.Nat.{ℕ, suc}
+use mathlib.Core.Path.{_≡_, refl, sym, ap, _∙_}
 use mathlib.Core.List.{List, _++_}
 use mathlib.Core.Logic.{inl, inr}
 use native.Mathlib.Omega.{arith}
-use lib.ListN.{length, take, drop, getD, take-append-drop}
+use lib.ListN.{length, take, drop, take-append-drop}
 use Rattle.laws.specs.Ranges.{table}
-use Rattle.curves.specs.Pairs.{Pair, horizon, figure, ceiling, least}
-use Rattle.curves.specs.Rounds.{whole, cutOff, Arrives, Crosses}
+use Rattle.curves.specs.Pairs.{Pair, horizon, figure}
+use Rattle.curves.specs.Rounds.{whole, Arrives}
 use Rattle.curves.proofs.Closure.{cut-off-arrives, cut-off-crosses}
 use Rattle.curves.proofs.Arrival.{never-both}
 use Rattle.closure.specs.declared.Closing.{Closing}
@@ -61,7 +61,7 @@ module _ (p found : Pair) where
     ending-is : (e : Ending) → EndedWith p e (pairOf (take (horizon p) (found .upper)) (take (horizon p) (found .lower))) (pairOf xs ys)
         → answer (closingFor e) (parts xs ys) ≡ closing p found
     ending-is (Arrived n) a =
-        sym (closed-is p found n (pairOf xs ys) ok (cut-off-arrives p n (pairOf xs ys) .1 a) ∙ (λ i. record { number = 0; rounds = n; results = whole-lists i }))
+        sym (closed-is p found n (pairOf xs ys) ok (cut-off-arrives p n (pairOf xs ys) .1 a) ∙ ap (answer (closingFor (Arrived n))) whole-lists)
     ending-is Crossed x =
         ap (refused 5) as-found ∙ sym (refused-is p found 5 (fifth p found ok none))
       where

@@ -1,10 +1,8 @@
 -- Theorems 5 to 8 over what `closing` says. Assumes nothing.
 use Prim.Native.Nat.{ℕ, _≤_}
 use mathlib.Core.Path.{_≡_, sym, ap, _∙_}
-use mathlib.Core.List.{List}
 use mathlib.Core.Logic.{_↔_, Iff·trans, Iff·symm}
 use native.Mathlib.Omega.{arith}
-use lib.ListN.{length}
 use Rattle.curves.specs.Streams.{Stream, Begins, sum}
 use Rattle.curves.specs.Pairs.{Pair, horizon, ceiling, least, Equal}
 use Rattle.curves.specs.Conformance.{Inside, Conforms, Conforms∞}
@@ -25,10 +23,8 @@ use Rattle.curves.proofs.Closure.{
 }
 use Rattle.closure.specs.Closing.{closing}
 use Rattle.closure.specs.Theorems.{
-  Passes,
   GivesClosure,
   closureOf,
-  Follows,
   FollowsCeilings,
   FollowsLeasts,
   FiguresMet,

@@ -7,7 +7,7 @@ use mathlib.Core.Logic.{_⊎_, inl, inr, ⊎-elim}
 use native.Mathlib.Omega.{arith}
 use lib.ListN.{drop}
 use Rattle.laws.proofs.Table.{table-same}
-use Rattle.curves.specs.Pairs.{Pair, horizon, ceiling, least, Equal}
+use Rattle.curves.specs.Pairs.{Pair, ceiling, least, Equal}
 use Rattle.curves.specs.Rounds.{whole, Arrives}
 use Rattle.curves.specs.Questions.{Question, AllYes, FirstNo, ask}
 use Rattle.curves.specs.Theorems.{Closes}
@@ -48,6 +48,9 @@ module _ (p found : Pair) where
   all-yes : Passes p found → Closes p → AllYes (questions p found)
   all-yes ok c = (ok .0, (ok .1 .0, (ok .1 .1 .0, (ok .1 .1 .1 .0, (c, tt)))))
 
+  passed : AllYes (questions p found) → Passes p found × Closes p
+  passed ys = ((ys .0, (ys .1 .0, (ys .1 .1 .0, (ys .1 .1 .1 .0, tt)))), ys .1 .1 .1 .1 .0)
+
   pub closed-is : (n : ℕ) (q : Pair) → Passes p found → Arrives whole p n q → closing p found ≡ closed n q found
   unfolding closing said
   closed-is n q ok a = go (ask (questions p found))
@@ -65,11 +68,7 @@ module _ (p found : Pair) where
 
   -- A question is answered no, or the lists pass and the rounds arrive.
   pub cases : ((n : ℕ) × FirstNo (questions p found) n) ⊎ (Passes p found × Closes p)
-  cases =
-      ⊎-elim
-      (λ ys. inr ((ys .0, (ys .1 .0, (ys .1 .1 .0, (ys .1 .1 .1 .0, tt)))), ys .1 .1 .1 .1 .0))
-      inl
-      (ask (questions p found))
+  cases = ⊎-elim (λ ys. inr (passed ys)) inl (ask (questions p found))
 
 -- ---- a question's number is at least 1, so that no refusal is taken for an answer
 Positive : List Question → Type 0
@@ -111,9 +110,10 @@ gives-passes p found g = ⊎-elim (λ f. absurd (no-number (f .0) (f .1))) (λ y
     no-number n f = omega (arith, number-positive p found n f, number-is _ _ (refused-is p found n f), g)
 
 pub closure-iff-all-yes : ClosureIffAllYes
-closure-iff-all-yes p found = (
-  (λ g. all-yes p found (gives-passes p found g .0) (gives-passes p found g .1)),
-  (λ ys.
-      number-is _ _
-      (closed-is p found (ys .1 .1 .1 .1 .0 .0) (ys .1 .1 .1 .1 .0 .1) (ys .0, (ys .1 .0, (ys .1 .1 .0, (ys .1 .1 .1 .0, tt)))) (ys .1 .1 .1 .1 .0 .2))),
-)
+closure-iff-all-yes p found = (there, back)
+  where
+    there : GivesClosure p found → AllYes (questions p found)
+    there g = let (ok, c) = gives-passes p found g in all-yes p found ok c
+
+    back : AllYes (questions p found) → GivesClosure p found
+    back ys = let (ok, c) = passed p found ys in number-is _ _ (closed-is p found (c .0) (c .1) ok (c .2))

@@ -8,7 +8,7 @@ use lib.ListN.{length, drop}
 use Rattle.laws.specs.Ranges.{table}
 use Rattle.laws.proofs.Search.{every?}
 use Rattle.curves.specs.Pairs.{Pair, horizon, ceiling, least}
-use Rattle.curves.specs.Questions.{Question, AllYes, ask}
+use Rattle.curves.specs.Questions.{Question, ask}
 use Rattle.curves.specs.Theorems.{Closes}
 use Rattle.curves.proofs.Arrival.{closes?}
 

@@ -1,7 +1,6 @@
 -- Document 01's marked figures hold: one test over the list, computed, and what a test that passes proves. Assumes nothing.
-use Prim.Native.Nat.{ℕ, _≤_}
-use mathlib.Core.Path.{_≡_}
-use mathlib.Core.Bool.{Bool, true, false, _&&_}
+use Prim.Native.Nat.{_≤_}
+use mathlib.Core.Bool.{Bool, true, _&&_}
 use mathlib.Core.List.{List, [], _∷_}
 use mathlib.Core.Logic.{⊎-map, Dec·and}
 use native.Mathlib.Decide.{decLe, ℕ-discrete}
@@ -10,12 +9,12 @@ use lib.ListN.{length}
 use Rattle.laws.specs.Ranges.{fold, table}
 use Rattle.laws.proofs.Search.{every, every?}
 use Rattle.curves.specs.Pairs.{Pair, horizon, figure}
-use Rattle.curves.specs.Questions.{AllYes, ask}
+use Rattle.curves.specs.Questions.{ask}
 use Rattle.curves.specs.Rounds.{newFigure, round, given, after}
 use Rattle.curves.specs.Theorems.{Closes}
 use Rattle.curves.proofs.Arrival.{never-both, crossed?, equal?}
 use Rattle.curves.proofs.Computed.{left?, left, both, same?, runs?, arrives?, arrives-computed, crosses?, crosses-by?, crosses-by}
-use Rattle.closure.specs.Closing.{question1, question2, question4, refused, closed, closing}
+use Rattle.closure.specs.Closing.{question1, question2, question4}
 use Rattle.closure.specs.Theorems.{Passes}
 use Rattle.closure.proofs.Said.{refused-is, closed-is, fifth}
 use Rattle.guarantees.specs.Marked.{Case, closes, refuses, Holds, AllHold, marked, MarkedFigures}

@@ -2,7 +2,7 @@
 -- Assumes nothing.
 use Prim.Native.Nat.{ℕ, _≤_}
 use mathlib.Core.List.{List}
-use mathlib.Core.Path.{_≡_, sym, ap, _∙_}
+use mathlib.Core.Path.{_≡_, sym, _∙_}
 use native.Mathlib.Omega.{arith}
 use borrow.Author.Needs.{needs}
 use lib.ListN.{length, take}
@@ -56,7 +56,8 @@ passes e =
     let lowers = either-false _ _ _ (e .if7 .left) (e .before .exceeds2 .ensures) in
     ((omega arith, omega arith), (omega arith, ((omega arith, omega arith), (within _ _ uppers lowers, tt))))
 
-part : (e : tie.Else7) (xs : List ℕ) → horizon (given (start e)) ≤ length xs → horizon (given (start e)) ≡ length (take (horizon (given (start e))) xs)
+part : (e : tie.Else7) (xs : List ℕ) → horizon (given (start e)) ≤ length xs
+    → horizon (given (start e)) ≡ length (take (horizon (given (start e))) xs)
 part e xs h = sym (length-take-le (horizon (given (start e))) xs h)
 
 slice-aggregate-close-into : tie.Need-slice-aggregate-close-into
