@@ -14,6 +14,7 @@ use Rattle.laws.proofs.Best.{fold-turn}
 use Rattle.laws.proofs.Table.{fill-turn, fill-done, table-self}
 use Rattle.curves.specs.Pairs.{Pair, figure}
 use Rattle.curves.specs.Rounds.{cutOff, newFigure, round, Crossed, Arrives, Crosses}
+use Rattle.closure.specs.Closing.{maxHorizon, figureLimit}
 use Rattle.closure.specs.Steps.{pairOf, Bounded, Either, Tells, sums, differences, Advanced, Ended, Delivered, EndedWith}
 use Rattle.closure.specs.declared.rounds.Ending.{Ending}
 use Rattle.closure.specs.declared.rounds.Ending.the-variants.{Arrived}
@@ -23,13 +24,13 @@ pub figure-next : (us : List ℕ) (i : ℕ) → getD us i 0 ≡ figure 0 us (i +
 unfolding figure
 figure-next us i = rw add-one
 
-pub figure-bounded : (us : List ℕ) → Bounded us → (d : ℕ) → figure 0 us d ≤ 16_776_960
+pub figure-bounded : (us : List ℕ) → Bounded us → (d : ℕ) → figure 0 us d ≤ figureLimit
 unfolding figure
 figure-bounded us b zero = omega arith
 figure-bounded us b (suc d) = b d
 
 -- Figures that are bounded as far as the list goes are bounded.
-pub bounded-within : (us : List ℕ) → ((i : ℕ) → i < length us → getD us i 0 ≤ 16_776_960) → Bounded us
+pub bounded-within : (us : List ℕ) → ((i : ℕ) → i < length us → getD us i 0 ≤ figureLimit) → Bounded us
 bounded-within us h i = elim (decLe (length us) i) [ yes p ↦ omega (arith, List·getD-eq-default us 0 p) | no p ↦ h i (omega arith) ]
 
 -- A turn of a loop that holds the best of x and f 1 to f (k - 1), and takes f k.
@@ -121,11 +122,11 @@ pub same-pairs : (us ls xs ys : List ℕ) → us ≡ xs → ls ≡ ys → pairOf
 same-pairs us ls xs ys e f = λ i. record { upper = e i; lower = f i }
 
 -- What `run` asks, of lists that have been copied.
-pub ready : (us xs : List ℕ) → xs ≡ us → (length us ≤ 256) × Bounded us → (length xs ≤ 256) × Bounded xs
-ready us xs e h = subst⁻¹ (λ (ys : List ℕ). (length ys ≤ 256) × Bounded ys) e h
+pub ready : (us xs : List ℕ) → xs ≡ us → (length us ≤ maxHorizon) × Bounded us → (length xs ≤ maxHorizon) × Bounded xs
+ready us xs e h = subst⁻¹ (λ (ys : List ℕ). (length ys ≤ maxHorizon) × Bounded ys) e h
 
 -- A part of an array to compute in is as long as it was asked for.
-pub part-long : (n : ℕ) (xs : List ℕ) → length xs ≡ 256 → n ≤ 256 → n ≡ length (take n xs)
+pub part-long : (n : ℕ) (xs : List ℕ) → length xs ≡ maxHorizon → n ≤ maxHorizon → n ≡ length (take n xs)
 part-long n xs e h = sym (length-take-le n xs (omega arith))
 
 -- The answer of a test that tells either of two things.

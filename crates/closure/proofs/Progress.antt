@@ -15,6 +15,7 @@ use Rattle.curves.specs.Pairs.{Pair, Same, horizon, figure, ceiling, least}
 use Rattle.curves.specs.Rounds.{cutOff, round, Crossed, Settled, after, Runs, Arrives, Crosses}
 use Rattle.curves.proofs.Figures.{given-self, round-horizon}
 use Rattle.curves.proofs.Weight.{below, upper-falls, weight, weight-falls}
+use Rattle.closure.specs.Closing.{maxHorizon, figureLimit}
 use Rattle.closure.specs.Steps.{Bounded, Advanced}
 use Rattle.closure.proofs.Laws.{bounded-within, figure-bounded, tells-true, tells-false}
 
@@ -54,9 +55,9 @@ unfolding fold
 sum-limit f k zero h = omega arith
 sum-limit f k (suc n) h = omega (arith, suc-mul n k, sum-limit f k n h, h (suc n))
 
-pub weight-limit : (c : Pair) → horizon c ≤ 256 → Bounded (c .upper) → weight c ≤ 4_294_902_016
+pub weight-limit : (c : Pair) → horizon c ≤ maxHorizon → Bounded (c .upper) → weight c ≤ maxHorizon * (figureLimit + 1)
 weight-limit c h b =
-    omega (arith, sum-limit (λ d. ceiling c d + 1 - least c d) 16_776_961 (horizon c) (λ d. omega (arith, figure-bounded (c .upper) b d)))
+    omega (arith, sum-limit (λ d. ceiling c d + 1 - least c d) (figureLimit + 1) (horizon c) (λ d. omega (arith, figure-bounded (c .upper) b d)))
 
 -- The rounds of p have come to c, after n that changed a figure.
 pub record Held (p : Pair) (n : ℕ) (c : Pair) : Type 0 where

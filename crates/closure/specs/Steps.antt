@@ -7,6 +7,7 @@ use lib.ListN.{length, getD}
 use Rattle.laws.specs.Ranges.{fold}
 use Rattle.curves.specs.Pairs.{Pair, figure, horizon}
 use Rattle.curves.specs.Rounds.{cutOff, newFigure, round, upperAt, lowerAt, Arrives, Crosses}
+use Rattle.closure.specs.Closing.{figureLimit}
 use Rattle.closure.specs.declared.rounds.Ending.{Ending}
 use Rattle.closure.specs.declared.rounds.Ending.the-variants.{Arrived, Crossed}
 
@@ -14,13 +15,13 @@ use Rattle.closure.specs.declared.rounds.Ending.the-variants.{Arrived, C
 abbrev pub pairOf : List ℕ → List ℕ → Pair
 pairOf us ls = record { upper = us; lower = ls }
 
--- Every figure is at most 16,776,960.
+-- Every figure is within the limit.
 abbrev pub Bounded : List ℕ → Type 0
-Bounded us = (i : ℕ) → getD us i 0 ≤ 16_776_960
+Bounded us = (i : ℕ) → getD us i 0 ≤ figureLimit
 
 -- Some figure is above that.
 abbrev pub Exceeds : List ℕ → Type 0
-Exceeds us = (i : ℕ) × (i < length us) × (16_776_960 < getD us i 0)
+Exceeds us = (i : ℕ) × (i < length us) × (figureLimit < getD us i 0)
 
 -- A test's answer: what it tells where it is true, and what where it is false.
 abbrev pub Either : Bool → Type 0 → Type 0 → Type 0

@@ -6,7 +6,7 @@ use rounds::Ending;
 ghost use mathlib.Core.Path.{_≡_};
 ghost use Prim.Native.Nat.{_≤_};
 ghost use lib.ListN.{length};
-ghost use Rattle.closure.specs.Closing.{closing};
+ghost use Rattle.closure.specs.Closing.{maxHorizon, closing};
 ghost use Rattle.closure.specs.Answers.{answer, closingFor};
 ghost use Rattle.closure.specs.Steps.{pairOf, Bounded, Exceeds, Either, SameLengths, Delivered, EndedWith};
 
@@ -74,7 +74,7 @@ fn closing_for(ending: Ending) -> Closing
 
 // Runs the rounds of a pair and puts the closure, if they arrive at one, into `upper` and `lower`.
 fn close_into(ceilings: &[u32], leasts: &[u32], upper: &mut [u32], lower: &mut [u32]) -> Ending
-    requires { ⌜ (length (now ceilings) ≤ 256) × Bounded (now ceilings) ⌝ }
+    requires { ⌜ (length (now ceilings) ≤ maxHorizon) × Bounded (now ceilings) ⌝ }
     requires { ⌜ SameLengths (now ceilings) (now leasts) (now upper) (now lower) ⌝ }
     ensures { λ r. ⌜ EndedWith (pairOf (now (ceilings .entry)) (now (leasts .entry))) r
         (pairOf (now (upper .entry)) (now (lower .entry))) (pairOf (now (upper .exit)) (now (lower .exit))) ⌝ }
@@ -107,7 +107,7 @@ fn close_with(
     new_upper: &mut [u32],
     new_lower: &mut [u32],
 ) -> Ending
-    requires { ⌜ (length (now ceilings) ≤ 256) × Bounded (now ceilings) ⌝ }
+    requires { ⌜ (length (now ceilings) ≤ maxHorizon) × Bounded (now ceilings) ⌝ }
     requires { ⌜ SameLengths (now ceilings) (now leasts) (now upper) (now lower) ⌝ }
     requires { ⌜ length (now «held_upper») ≡ length (now ceilings) ⌝ }
     requires { ⌜ SameLengths (now ceilings) (now «held_lower») (now «new_upper») (now «new_lower») ⌝ }
@@ -144,7 +144,7 @@ fn deliver(
 
 // 256 figures to compute with.
 fn zeros() -> [u32; MAX_HORIZON]
-    ensures { λ r. ⌜ length r ≡ 256 ⌝ }
+    ensures { λ r. ⌜ length r ≡ maxHorizon ⌝ }
 {
     [0u32; MAX_HORIZON]
 }

@@ -6,6 +6,7 @@ ghost use Prim.Native.Nat.{_+_, _-_, _≤_, _<_, min, max};
 ghost use lib.ListN.{length};
 ghost use Rattle.curves.specs.Pairs.{figure};
 ghost use Rattle.curves.specs.Rounds.{cutOff, round, Crossed};
+ghost use Rattle.closure.specs.Closing.{maxHorizon};
 ghost use Rattle.closure.specs.Steps.{pairOf, Bounded, Tells, SameLengths};
 ghost use Rattle.closure.specs.Steps.{sums, differences, newUpper, newLower, Advanced, Ended};
 
@@ -215,7 +216,7 @@ pub fn run(
     new_upper: &mut [u32],
     new_lower: &mut [u32],
 ) -> Ending
-    requires { ⌜ (length (now upper) ≤ 256) × Bounded (now upper) ⌝ }
+    requires { ⌜ (length (now upper) ≤ maxHorizon) × Bounded (now upper) ⌝ }
     requires { ⌜ SameLengths (now upper) (now lower) (now «new_upper») (now «new_lower») ⌝ }
     ensures { λ r. ⌜ Ended (pairOf (now (upper .entry)) (now (lower .entry))) r (pairOf (now (upper .exit)) (now (lower .exit))) ⌝ }
 {

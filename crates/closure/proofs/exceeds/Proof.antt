@@ -5,12 +5,13 @@ use native.Mathlib.Omega.{arith}
 use borrow.Author.Needs.{needs}
 use borrow.Author.Count.{below-none, below-more}
 use lib.ListN.{length, getD}
+use Rattle.closure.specs.Closing.{figureLimit}
 use Rattle.closure.proofs.Laws.{bounded-within}
 use Rattle.closure.proofs.exceeds.Statement.{statement}
 use Rattle.closure.proofs.exceeds.Tie as tie
 
 abbrev Inv-loop : tie.InvT-loop
-Inv-loop figures i₀ i = (i ≤ length figures) × ((k : ℕ) → k < i → getD figures k 0 ≤ 16_776_960)
+Inv-loop figures i₀ i = (i ≤ length figures) × ((k : ℕ) → k < i → getD figures k 0 ≤ figureLimit)
 
 abbrev μ-loop : tie.MeasureT-loop
 μ-loop figures i₀ i = length figures - i
