@@ -6,7 +6,7 @@ use mathlib.Core.Logic.{inl, inr}
 use native.Mathlib.Omega.{arith}
 use lib.ListN.{length, take, drop, take-append-drop}
 use Rattle.laws.specs.Ranges.{table}
-use Rattle.curves.specs.Pairs.{Pair, horizon, figure}
+use Rattle.curves.specs.Pairs.{Pair, horizon, figure, pairOf}
 use Rattle.curves.specs.Rounds.{whole, Arrives}
 use Rattle.curves.proofs.Closure.{cut-off-arrives, cut-off-crosses}
 use Rattle.curves.proofs.Arrival.{never-both}
@@ -14,9 +14,9 @@ use Rattle.closure.specs.declared.Closing.{Closing}
 use Rattle.closure.specs.declared.rounds.Ending.{Ending}
 use Rattle.closure.specs.declared.rounds.Ending.the-variants.{Arrived, Crossed}
 use Rattle.closure.specs.Closing.{question1, question2, question3, question4, refused, closed, closing}
-use Rattle.closure.specs.Answers.{answer, closingFor}
+use Rattle.closure.specs.Answers.{answer}
 use Rattle.closure.specs.Theorems.{Passes}
-use Rattle.closure.specs.Steps.{pairOf, Bounded, Exceeds, EndedWith}
+use Rattle.closure.specs.Steps.{closingFor, Bounded, Exceeds, EndedWith}
 use Rattle.closure.proofs.Said.{refused-is, closed-is, fifth}
 use Rattle.closure.proofs.Laws.{figure-bounded, table-figures}
 

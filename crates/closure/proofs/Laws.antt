@@ -12,10 +12,10 @@ use lib.Seq.{length-take-le}
 use Rattle.laws.specs.Ranges.{fold, table}
 use Rattle.laws.proofs.Best.{fold-turn}
 use Rattle.laws.proofs.Table.{fill-turn, fill-done, table-self}
-use Rattle.curves.specs.Pairs.{Pair, figure}
+use Rattle.curves.specs.Pairs.{Pair, figure, pairOf}
 use Rattle.curves.specs.Rounds.{cutOff, newFigure, round, Crossed, Arrives, Crosses}
 use Rattle.closure.specs.Closing.{maxHorizon, figureLimit}
-use Rattle.closure.specs.Steps.{pairOf, Bounded, Either, Tells, sums, differences, Advanced, Ended, Delivered, EndedWith}
+use Rattle.closure.specs.Steps.{Bounded, Either, Tells, sums, differences, Advanced, Ended, Delivered, EndedWith}
 use Rattle.closure.specs.declared.rounds.Ending.{Ending}
 use Rattle.closure.specs.declared.rounds.Ending.the-variants.{Arrived}
 

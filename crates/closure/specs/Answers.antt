@@ -2,8 +2,6 @@
 use Rattle.curves.specs.Pairs.{Pair}
 use Rattle.closure.specs.declared.Closing.{Closing}
 use Rattle.closure.specs.declared.Closing.the-variants.{Closed, UpperLength, LowerLength, ResultLength, FigureLimit, NoClosure}
-use Rattle.closure.specs.declared.rounds.Ending.{Ending}
-use Rattle.closure.specs.declared.rounds.Ending.the-variants.{Arrived, Crossed}
 use Rattle.closure.specs.Closing.{Answer, refused}
 
 -- What a call that returns this case, and leaves the result lists so, has answered.
@@ -14,8 +12,3 @@ answer LowerLength left = refused 2 left
 answer ResultLength left = refused 3 left
 answer FigureLimit left = refused 4 left
 answer NoClosure left = refused 5 left
-
--- The case for each way in which the rounds end.
-abbrev pub closingFor : Ending → Closing
-closingFor (Arrived n) = Closed n
-closingFor Crossed = NoClosure

@@ -1,4 +1,4 @@
--- What the private functions of this crate promise each other. A reader of `close`'s promise need not read it.
+-- What the private functions of this crate promise each other. `close`'s promise cites nothing of it.
 use Prim.Native.Nat.{ℕ, _+_, _-_, _≤_, _<_, min, max}
 use mathlib.Core.Path.{_≡_}
 use mathlib.Core.Bool.{Bool, true, false}
@@ -8,12 +8,10 @@ use Rattle.laws.specs.Ranges.{fold}
 use Rattle.curves.specs.Pairs.{Pair, figure, horizon}
 use Rattle.curves.specs.Rounds.{cutOff, newFigure, round, upperAt, lowerAt, Arrives, Crosses}
 use Rattle.closure.specs.Closing.{figureLimit}
+use Rattle.closure.specs.declared.Closing.{Closing}
+use Rattle.closure.specs.declared.Closing.the-variants.{Closed, NoClosure}
 use Rattle.closure.specs.declared.rounds.Ending.{Ending}
 use Rattle.closure.specs.declared.rounds.Ending.the-variants.{Arrived, Crossed}
-
--- Two lists as a pair.
-abbrev pub pairOf : List ℕ → List ℕ → Pair
-pairOf us ls = record { upper = us; lower = ls }
 
 -- Every figure is within the limit.
 abbrev pub Bounded : List ℕ → Type 0
@@ -72,3 +70,8 @@ Delivered Crossed held found left = left ≡ found
 abbrev pub EndedWith : Pair → Ending → Pair → Pair → Type 0
 EndedWith p (Arrived n) found left = Arrives cutOff p n left
 EndedWith p Crossed found left = ((n : ℕ) × Crosses cutOff p n) × (left ≡ found)
+
+-- The answer to lists that pass questions 1 to 4.
+abbrev pub closingFor : Ending → Closing
+closingFor (Arrived n) = Closed n
+closingFor Crossed = NoClosure

@@ -4,10 +4,10 @@
 ghost use mathlib.Core.Path.{_≡_};
 ghost use Prim.Native.Nat.{_+_, _-_, _≤_, _<_, min, max};
 ghost use lib.ListN.{length};
-ghost use Rattle.curves.specs.Pairs.{figure};
+ghost use Rattle.curves.specs.Pairs.{figure, pairOf};
 ghost use Rattle.curves.specs.Rounds.{cutOff, round, Crossed};
 ghost use Rattle.closure.specs.Closing.{maxHorizon};
-ghost use Rattle.closure.specs.Steps.{pairOf, Bounded, Tells, SameLengths};
+ghost use Rattle.closure.specs.Steps.{Bounded, Tells, SameLengths};
 ghost use Rattle.closure.specs.Steps.{sums, differences, newUpper, newLower, Advanced, Ended};
 
 // How the rounds of a pair ended: with a closure, after so many rounds that changed a figure, or with some least above its ceiling.

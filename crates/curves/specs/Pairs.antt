@@ -27,9 +27,13 @@ pub record Same {N : Type 0} (z : N) (c e : Curves N) : Type 0 where
   pub uppers : (d : ℕ) → 1 ≤ d → d ≤ horizon c → figure z (c .upper) d ≡ figure z (e .upper) d
   pub lowers : (d : ℕ) → 1 ≤ d → d ≤ horizon c → figure z (c .lower) d ≡ figure z (e .lower) d
 
--- A pair of arrival curves, with its ceilings, its leasts and its equality.
+-- A pair of arrival curves, its ceilings, its leasts and its equality.
 abbrev pub Pair : Type 0
 Pair = Curves ℕ
+
+-- Ceilings first, then leasts.
+abbrev pub pairOf : List ℕ → List ℕ → Pair
+pairOf us ls = record { upper = us; lower = ls }
 
 abbrev pub ceiling : Pair → ℕ → ℕ
 ceiling p d = figure 0 (p .upper) d

@@ -3,12 +3,8 @@ use Prim.Native.Nat.{ℕ, _≤_}
 use mathlib.Core.Path.{_≡_}
 use mathlib.Core.List.{List, [], _∷_}
 use lib.ListN.{length}
-use Rattle.curves.specs.Pairs.{Pair, horizon}
+use Rattle.curves.specs.Pairs.{Pair, pairOf, horizon}
 use Rattle.closure.specs.Closing.{refused, closed, closing}
-
--- "Ceilings first, then leasts."
-abbrev pub pair : List ℕ → List ℕ → Pair
-pair us ls = record { upper = us; lower = ls }
 
 pub data Case : Type 0 where
   -- Closing the pair gives this closure after so many rounds.
@@ -29,14 +25,14 @@ AllHold (c ∷ cs) = Holds c × AllHold cs
 
 unfoldable pub marked : List Case
 marked =
-    closes (pair (7 ∷ []) (2 ∷ [])) 0 (pair (7 ∷ []) (2 ∷ []))
-    ∷ refuses (pair (2 ∷ []) (7 ∷ []))
-    ∷ closes (pair (0 ∷ []) (0 ∷ [])) 0 (pair (0 ∷ []) (0 ∷ []))
-    ∷ closes (pair (5 ∷ 3 ∷ []) (0 ∷ 0 ∷ [])) 1 (pair (3 ∷ 3 ∷ []) (0 ∷ 0 ∷ []))
-    ∷ closes (pair (1 ∷ 2 ∷ []) (0 ∷ 2 ∷ [])) 1 (pair (1 ∷ 2 ∷ []) (1 ∷ 2 ∷ []))
-    ∷ refuses (pair (2 ∷ 2 ∷ 5 ∷ []) (0 ∷ 0 ∷ 4 ∷ []))
-    ∷ closes (pair (2 ∷ 3 ∷ 5 ∷ 5 ∷ []) (0 ∷ 0 ∷ 0 ∷ 3 ∷ [])) 1 (pair (2 ∷ 3 ∷ 5 ∷ 5 ∷ []) (0 ∷ 0 ∷ 1 ∷ 3 ∷ []))
-    ∷ closes (pair (3 ∷ 6 ∷ 3 ∷ 12 ∷ 9 ∷ []) (0 ∷ 0 ∷ 0 ∷ 0 ∷ 5 ∷ [])) 4 (pair (1 ∷ 2 ∷ 3 ∷ 4 ∷ 5 ∷ []) (1 ∷ 2 ∷ 3 ∷ 4 ∷ 5 ∷ []))
+    closes (pairOf (7 ∷ []) (2 ∷ [])) 0 (pairOf (7 ∷ []) (2 ∷ []))
+    ∷ refuses (pairOf (2 ∷ []) (7 ∷ []))
+    ∷ closes (pairOf (0 ∷ []) (0 ∷ [])) 0 (pairOf (0 ∷ []) (0 ∷ []))
+    ∷ closes (pairOf (5 ∷ 3 ∷ []) (0 ∷ 0 ∷ [])) 1 (pairOf (3 ∷ 3 ∷ []) (0 ∷ 0 ∷ []))
+    ∷ closes (pairOf (1 ∷ 2 ∷ []) (0 ∷ 2 ∷ [])) 1 (pairOf (1 ∷ 2 ∷ []) (1 ∷ 2 ∷ []))
+    ∷ refuses (pairOf (2 ∷ 2 ∷ 5 ∷ []) (0 ∷ 0 ∷ 4 ∷ []))
+    ∷ closes (pairOf (2 ∷ 3 ∷ 5 ∷ 5 ∷ []) (0 ∷ 0 ∷ 0 ∷ 3 ∷ [])) 1 (pairOf (2 ∷ 3 ∷ 5 ∷ 5 ∷ []) (0 ∷ 0 ∷ 1 ∷ 3 ∷ []))
+    ∷ closes (pairOf (3 ∷ 6 ∷ 3 ∷ 12 ∷ 9 ∷ []) (0 ∷ 0 ∷ 0 ∷ 0 ∷ 5 ∷ [])) 4 (pairOf (1 ∷ 2 ∷ 3 ∷ 4 ∷ 5 ∷ []) (1 ∷ 2 ∷ 3 ∷ 4 ∷ 5 ∷ []))
     ∷ []
 
 abbrev pub MarkedFigures : Type 0

@@ -2,7 +2,7 @@
 -- Assumes nothing.
 use mathlib.Core.Path.{sym, ap}
 use borrow.Author.Needs.{needs}
-use Rattle.closure.specs.Answers.{closingFor}
+use Rattle.closure.specs.Steps.{closingFor}
 use Rattle.closure.proofs.closing_for.Statement.{statement}
 use Rattle.closure.proofs.closing_for.Tie as tie
 

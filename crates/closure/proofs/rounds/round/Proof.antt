@@ -5,7 +5,8 @@ use native.Mathlib.Omega.{arith}
 use borrow.Author.Needs.{needs}
 use lib.ListN.{length}
 use Rattle.curves.specs.Rounds.{round}
-use Rattle.closure.specs.Steps.{pairOf, newUpper, newLower}
+use Rattle.curves.specs.Pairs.{pairOf}
+use Rattle.closure.specs.Steps.{newUpper, newLower}
 use Rattle.closure.proofs.Laws.{Filled, unfilled, stored, filled}
 use Rattle.closure.proofs.rounds.round.Statement.{statement}
 use Rattle.closure.proofs.rounds.round.Tie as tie

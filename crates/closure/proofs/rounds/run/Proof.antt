@@ -6,7 +6,7 @@ use borrow.Author.Needs.{needs}
 use lib.ListN.{length}
 use Rattle.curves.specs.Rounds.{cutOff, Crossed}
 use Rattle.curves.proofs.Weight.{weight}
-use Rattle.closure.specs.Steps.{pairOf}
+use Rattle.curves.specs.Pairs.{pairOf}
 use Rattle.closure.proofs.Laws.{tells-true, tells-false}
 use Rattle.closure.proofs.Progress.{Held, begins, crosses, arrives, goes-on, lighter, lower-bounded, weight-limit}
 use Rattle.closure.proofs.rounds.run.Statement.{statement}
