@@ -12,14 +12,14 @@ use Rattle.curves.specs.Questions.{Question, ask}
 use Rattle.curves.specs.Theorems.{Closes}
 use Rattle.curves.proofs.Arrival.{closes?}
 
--- The longest horizon, and the largest figure, "which is 256 × 65,535".
+-- The longest horizon, and the largest figure: 256 times 65,535.
 abbrev pub maxHorizon : ℕ
 maxHorizon = 256
 
 abbrev pub figureLimit : ℕ
 figureLimit = 16_776_960
 
--- 1. "Is the ceiling list 1 to 256 long?"
+-- 1. The ceiling list has 1 to 256 entries.
 abbrev pub question1 : Pair → Question
 question1 p =
     record {
@@ -28,11 +28,11 @@ question1 p =
       answered = Dec·and (decLe 1 (horizon p)) (decLe (horizon p) maxHorizon);
     }
 
--- 2. "Is the least list of that length?"
+-- 2. The least list has as many.
 abbrev pub question2 : Pair → Question
 question2 p = record { number = 2; asked = length (p .lower) ≡ horizon p; answered = ℕ-discrete (length (p .lower)) (horizon p) }
 
--- 3. "Is each result list at least H long?" The result lists are as found.
+-- 3. Neither result list, as found, has fewer.
 abbrev pub question3 : Pair → Pair → Question
 question3 p found =
     record {
@@ -41,7 +41,7 @@ question3 p found =
       answered = Dec·and (decLe (horizon p) (length (found .upper))) (decLe (horizon p) (length (found .lower)));
     }
 
--- 4. "Is every figure at most 16,776,960?"
+-- 4. No figure is above the limit.
 abbrev pub WithinLimit : Pair → ℕ → Type 0
 WithinLimit p d = (ceiling p d ≤ figureLimit) × (least p d ≤ figureLimit)
 
@@ -53,7 +53,7 @@ question4 p =
       answered = every? (WithinLimit p) (horizon p) (λ d. Dec·and (decLe (ceiling p d) figureLimit) (decLe (least p d) figureLimit));
     }
 
--- 5. "Do the rounds end with a closure?" They do or they do not: theorem 1.
+-- 5. The rounds arrive at a closure. They do or they do not: theorem 1.
 abbrev pub question5 : Pair → Question
 question5 p = record { number = 5; asked = Closes p; answered = closes? p }
 
@@ -68,11 +68,11 @@ pub record Answer : Type 0 where
   pub rounds : ℕ
   pub results : Pair
 
--- "A refusal gives its number with every other field 0, leaves result lists as found."
+-- A refusal: its number, nothing else, and the result lists as found.
 abbrev pub refused : ℕ → Pair → Answer
 refused n found = record { number = n; rounds = 0; results = found }
 
--- The closure q in entries 0 to H − 1; "entries past H are unchanged".
+-- The closure q in the first H entries of the result lists; the others as found.
 abbrev pub closed : ℕ → Pair → Pair → Answer
 closed n q found =
     record {

@@ -26,7 +26,7 @@ closureOf p found =
       lower = take (horizon p) (closing p found .results .lower);
     }
 
--- ---- 1. Demand 2: "The closure is what document 01's rounds arrive at", with their count; and what they arrive at is given.
+-- ---- 1. Demand 2, its last sentence. What the rounds arrive at is given, with their count; and what is given, they arrive at.
 abbrev pub GivesWhatArrives : Type 0
 GivesWhatArrives =
     (p found : Pair) (n : ℕ) (q : Pair) → Passes p found → Arrives whole p n q → closing p found ≡ closed n q found
@@ -44,8 +44,7 @@ RefusedIffFirstNo = (p found : Pair) (n : ℕ) → ((1 ≤ n) × (closing p foun
 abbrev pub ClosureIffAllYes : Type 0
 ClosureIffAllYes = (p found : Pair) → GivesClosure p found ↔ AllYes (questions p found)
 
--- Demand 3: "For lists that pass document 01's questions 1 to 4, closing is refused exactly when no unbounded stream conforms, and
--- then with 5; else it gives the closure."
+-- Demand 3, its second sentence.
 abbrev pub RefusedIffNoStream : Type 0
 RefusedIffNoStream =
     (p found : Pair) → Passes p found → (closing p found ≡ refused 5 found) ↔ ((s : Stream) → Conforms∞ p (s .counts) → ⊥)
@@ -63,7 +62,7 @@ FollowsCeilings = (p found : Pair) → GivesClosure p found → Follows p (ceili
 abbrev pub FollowsLeasts : Type 0
 FollowsLeasts = (p found : Pair) → GivesClosure p found → Follows p (least (closureOf p found))
 
--- Demand 3: "each of its figures is met in a window of some such stream".
+-- Demand 3, its third sentence, the first half.
 abbrev pub MetBySome : Pair → ℕ → ℕ → Type 0
 MetBySome p d x = (s : Stream) × Conforms∞ p (s .counts) × MetIn (s .counts) d x
 
@@ -72,14 +71,13 @@ FiguresMet =
     (p found : Pair) → GivesClosure p found → (d : ℕ) → 1 ≤ d → d ≤ horizon p
     → MetBySome p d (ceiling (closureOf p found) d) × MetBySome p d (least (closureOf p found) d)
 
--- ---- 6. Demand 3: "a finite stream conforms to it exactly when it begins an unbounded stream conforming to the pair".
+-- ---- 6. Demand 3, its third sentence, the second half: the conforming starts of the closure are those with a future.
 abbrev pub ConformsIffBegins : Type 0
 ConformsIffBegins =
     (p found : Pair) → GivesClosure p found → (xs : List ℕ)
     → Conforms (closureOf p found) xs ↔ ((s : Stream) × Begins xs (s .counts) × Conforms∞ p (s .counts))
 
--- ---- 7. Demand 3: "Two closures given for pairs with one horizon are equal exactly when the same unbounded streams conform to both
--- pairs."
+-- ---- 7. Demand 3, its first sentence: closures tell pairs apart exactly as their unbounded streams do.
 abbrev pub EqualIffSameStreams : Type 0
 EqualIffSameStreams =
     (p found p′ found′ : Pair) → GivesClosure p found → GivesClosure p′ found′ → horizon p ≡ horizon p′

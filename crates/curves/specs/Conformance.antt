@@ -13,11 +13,11 @@ TooMany p d x = ceiling p d < x
 abbrev pub TooFew : Pair → ℕ → ℕ → Type 0
 TooFew p d x = x < least p d
 
--- "A sum from its least to its ceiling."
+-- The sum keeps both figures.
 abbrev pub Inside : Pair → ℕ → ℕ → Type 0
 Inside p d x = (¬ TooMany p d x) × (¬ TooFew p d x)
 
--- The first n ticks conform: "every window of 1 to H consecutive ticks that lies wholly inside" them has such a sum.
+-- The first n ticks conform: each window of 1 to H ticks, none of them before the first or after the last, keeps both figures.
 abbrev pub ConformsUpTo : ℕ → Pair → (ℕ → ℕ) → Type 0
 ConformsUpTo n p s = (i d : ℕ) → 1 ≤ d → d ≤ horizon p → i + d ≤ n → Inside p d (sum s i d)
 
@@ -29,6 +29,6 @@ Conforms p xs = ConformsUpTo (length xs) p (countsOf xs)
 abbrev pub Conforms∞ : Pair → (ℕ → ℕ) → Type 0
 Conforms∞ p s = (i d : ℕ) → 1 ≤ d → d ≤ horizon p → Inside p d (sum s i d)
 
--- "A figure is met in a window of its length whose sum is that figure."
+-- A figure x of d ticks is met: some window of d ticks has that sum.
 abbrev pub MetIn : (ℕ → ℕ) → ℕ → ℕ → Type 0
 MetIn s d x = (i : ℕ) × (sum s i d ≡ x)

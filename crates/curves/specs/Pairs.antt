@@ -1,5 +1,5 @@
 -- Pairs of arrival curves (document 01, "The trade's terms"), of any horizon and any figures.
-use Prim.Native.Nat.{ℕ, zero, suc, _-_, _+_, _≤_, _<_}
+use Prim.Native.Nat.{ℕ, zero, suc, _-_, _+_, _≤_}
 use mathlib.Core.Path.{_≡_}
 use mathlib.Core.List.{List}
 use lib.ListN.{length, getD}
@@ -21,7 +21,7 @@ unfoldable pub figure : {N : Type 0} → N → List N → ℕ → N
 figure z us zero = z
 figure z us (suc d) = getD us d z
 
--- Equality: "two are equal when their horizon and each ceiling and least for 1 to H are".
+-- Equality: the same horizon, and the same ceiling and least for each window up to it.
 pub record Same {N : Type 0} (z : N) (c e : Curves N) : Type 0 where
   pub horizons : horizon c ≡ horizon e
   pub uppers : (d : ℕ) → 1 ≤ d → d ≤ horizon c → figure z (c .upper) d ≡ figure z (e .upper) d
@@ -44,6 +44,6 @@ least p d = figure 0 (p .lower) d
 abbrev pub Equal : Pair → Pair → Type 0
 Equal p q = Same 0 p q
 
--- "The sum over all windows of ceiling minus least."
+-- How far the ceilings stand above the leasts, over all windows.
 abbrev pub slack : Pair → ℕ
 slack p = fold _+_ 0 (λ d. ceiling p d - least p d) (horizon p)

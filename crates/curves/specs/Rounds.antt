@@ -18,7 +18,7 @@ pub record Arithmetic : Type 1 where
   -- The first is strictly below the second.
   pub Below : Number → Number → Type 0
 
--- "Differences are whole numbers and may be negative."
+-- Document 01's: a difference may be negative.
 abbrev pub whole : Arithmetic
 whole =
     record {
@@ -45,8 +45,9 @@ cutOff =
     }
 
 module _ (A : Arithmetic) where
-  -- "New ceiling of a window d: the smallest of the old ceiling of d; ceiling of a plus ceiling of d − a, for 1 ≤ a < d; ceiling of
-  -- d + t minus least of t, for t ≥ 1 and d + t ≤ H." With the two curves, and smallest and largest, exchanged it is the new least.
+  -- The figure that a round gives a window of d ticks: the best of its old one; of those of its two parts, a and d − a ticks, added; and
+  -- of a longer window's, d + t ticks, less the other curve's for the t ticks more. The new ceiling is the smallest, over the ceilings
+  -- less leasts; the new least is the largest, over the leasts less ceilings.
   unfoldable pub newFigure : (A .Number → A .Number → A .Number) → ℕ → (ℕ → A .Number) → (ℕ → A .Number) → ℕ → A .Number
   newFigure best H own other d =
       fold best (fold best (own d) (λ a. A .plus (own a) (own (d - a))) (d - 1))
@@ -58,7 +59,7 @@ module _ (A : Arithmetic) where
   abbrev pub lowerAt : Curves (A .Number) → ℕ → A .Number
   lowerAt c d = figure (A .of 0) (c .lower) d
 
-  -- "A round replaces all figures together, from the old ones."
+  -- A round: every figure anew, all from the old ones.
   unfoldable pub round : Curves (A .Number) → Curves (A .Number)
   round c =
       record {
@@ -66,14 +67,14 @@ module _ (A : Arithmetic) where
         lower = table (newFigure (A .larger) (horizon c) (lowerAt c) (upperAt c)) (horizon c);
       }
 
-  -- "Some least is above its ceiling."
+  -- Some least stands above its ceiling.
   pub record Crossed (c : Curves (A .Number)) : Type 0 where
     pub window : ℕ
     pub positive : 1 ≤ window
     pub within : window ≤ horizon c
     pub above : A .Below (upperAt c window) (lowerAt c window)
 
-  -- A round "changes nothing".
+  -- A round leaves every figure as it is.
   abbrev pub Settled : Curves (A .Number) → Type 0
   Settled c = Same (A .of 0) (round c) c
 
@@ -85,16 +86,16 @@ module _ (A : Arithmetic) where
         lower = table (λ d. A .of (least p d)) (horizon p);
       }
 
-  -- The figures of a pair after n rounds, if so many are run; those of q.
+  -- The figures of a pair after n rounds, if so many are run.
   unfoldable pub after : ℕ → Pair → Curves (A .Number)
   after zero p = given p
   after (suc n) p = round (after n p)
 
+  -- q has the figures that p has after n rounds.
   abbrev pub HasAfter : ℕ → Pair → Pair → Type 0
   HasAfter n p q = Same (A .of 0) (after n p) (given q)
 
-  -- n rounds are run, and each changes a figure: "rounds go on until one changes nothing or some least is above its ceiling, the pair
-  -- as given included".
+  -- n rounds are run, and each changes a figure: before none of them has a least come above its ceiling, in the pair as given either.
   pub record Runs (p : Pair) (n : ℕ) : Type 0 where
     pub uncrossed : (k : ℕ) → k < n → ¬ Crossed (after k p)
     pub changes : (k : ℕ) → k < n → ¬ Settled (after k p)

@@ -4,7 +4,7 @@ use mathlib.Core.Path.{_≡_}
 use mathlib.Core.List.{List}
 use lib.ListN.{length, getD}
 
--- "A count is a whole number from 0 to 4,294,967,295."
+-- The largest count of a tick.
 abbrev pub countLimit : ℕ
 countLimit = 4_294_967_295
 
@@ -17,7 +17,7 @@ pub record Stream : Type 0 where
 abbrev pub countsOf : List ℕ → ℕ → ℕ
 countsOf xs tick = getD xs tick 0
 
--- A finite stream of n counts begins an unbounded one "when they are its counts at ticks 0 to n − 1".
+-- Begins: the finite stream's counts are the first of the unbounded one.
 abbrev pub Begins : List ℕ → (ℕ → ℕ) → Type 0
 Begins xs s = (tick : ℕ) → tick < length xs → countsOf xs tick ≡ s tick
 

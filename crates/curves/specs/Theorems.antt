@@ -24,7 +24,7 @@ ArrivesOnce = (p q r : Pair) (m n : ℕ) → Arrives whole p m q → Arrives who
 abbrev pub CrossesOnce : Type 0
 CrossesOnce = (p : Pair) (m n : ℕ) → Crosses whole p m → Crosses whole p n → m ≡ n
 
--- "Where there is a closure, that count is at most the sum over all windows of ceiling minus least in the pair as given."
+-- The bound on their count.
 abbrev pub RoundsWithinSlack : Type 0
 RoundsWithinSlack = (p q : Pair) (n : ℕ) → Arrives whole p n q → n ≤ slack p
 
