@@ -61,7 +61,8 @@ module _ (p found : Pair) where
     ending-is : (e : Ending) → EndedWith p e (pairOf (take (horizon p) (found .upper)) (take (horizon p) (found .lower))) (pairOf xs ys)
         → answer (closingFor e) (parts xs ys) ≡ closing p found
     ending-is (Arrived n) a =
-        sym (closed-is p found n (pairOf xs ys) ok (cut-off-arrives p n (pairOf xs ys) .1 a) ∙ ap (answer (closingFor (Arrived n))) whole-lists)
+        let q : Pair = pairOf xs ys in
+        sym (closed-is p found n q ok (cut-off-arrives p n q .1 a) ∙ ap (answer (closingFor (Arrived n))) whole-lists)
     ending-is Crossed x =
         ap (refused 5) as-found ∙ sym (refused-is p found 5 (fifth p found ok none))
       where

@@ -57,7 +57,8 @@ sum-limit f k (suc n) h = omega (arith, suc-mul n k, sum-limit f k n h, h (suc n
 
 pub weight-limit : (c : Pair) → horizon c ≤ maxHorizon → Bounded (c .upper) → weight c ≤ maxHorizon * (figureLimit + 1)
 weight-limit c h b =
-    omega (arith, sum-limit (λ d. ceiling c d + 1 - least c d) (figureLimit + 1) (horizon c) (λ d. omega (arith, figure-bounded (c .upper) b d)))
+    let each : (d : ℕ) → ceiling c d + 1 - least c d ≤ figureLimit + 1 = λ d. omega (arith, figure-bounded (c .upper) b d) in
+    omega (arith, sum-limit (λ d. ceiling c d + 1 - least c d) (figureLimit + 1) (horizon c) each)
 
 -- The rounds of p have come to c, after n that changed a figure.
 pub record Held (p : Pair) (n : ℕ) (c : Pair) : Type 0 where
