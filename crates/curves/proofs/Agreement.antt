@@ -1,16 +1,16 @@
 -- Rounds with differences cut off at 0 run, settle and cross together with the exact ones. Assumes nothing.
-use Prim.Native.Nat.{ℕ, zero, suc, _+_, _-_, _≤_, _<_}
-use mathlib.Core.Path.{_≡_, refl, sym, ap, _∙_, subst}
-use mathlib.Core.Logic.{_↔_, _⊎_, inl, inr, ⊎-elim, Iff·rfl, Iff·symm, Iff·trans}
+use Prim.Native.Nat.{ℕ, zero, suc, _≤_, _<_}
+use mathlib.Core.Path.{_≡_, sym}
+use mathlib.Core.Logic.{_↔_, _⊎_, inl, ⊎-elim}
 use native.Mathlib.Nat.{le-refl, le-step}
 use native.Mathlib.Omega.{arith}
-use lib.IntN.{ℤ, pos, natAbs}
-use lib.Signed.{_<ℤ_}
+use lib.IntN.{pos}
 use Rattle.laws.proofs.Search.{below-suc}
 use Rattle.laws.proofs.Whole.{lt-parts, parts-lt}
-use Rattle.curves.specs.Pairs.{Curves, horizon, Same, Pair, ceiling, least, Equal}
-use Rattle.curves.specs.Rounds.{whole, cutOff, given, round, after, Crossed, Settled, Runs, Arrives, Crosses, upperAt, lowerAt}
-use Rattle.curves.proofs.Figures.{given-horizon, given-upper, given-lower, given-same, same-sym, same-trans, same-crossed}
+use Rattle.curves.specs.Pairs.{horizon, Same, Pair, ceiling, least, Equal}
+use Rattle.curves.specs.Rounds.{whole, cutOff, given, round, after, Crossed, Settled, Runs, Arrives, Crosses}
+use Rattle.curves.proofs.Figures.{given-horizon, given-upper, given-lower, given-same}
+use Rattle.curves.proofs.Figures.{same-refl, same-sym, same-trans, same-crossed}
 use Rattle.curves.proofs.CutOff.{round-agrees}
 
 -- A pair's own figures, cut off at 0, are the pair's.
@@ -18,12 +18,9 @@ pub given-equal : (p : Pair) → Equal (given cutOff p) p
 given-equal p =
     record {
       horizons = given-horizon cutOff p;
-      uppers = λ d u v. given-upper cutOff p d u (inner d v);
-      lowers = λ d u v. given-lower cutOff p d u (inner d v);
+      uppers = λ d u v. given-upper cutOff p d u (rw (given-horizon cutOff p) at v);
+      lowers = λ d u v. given-lower cutOff p d u (rw (given-horizon cutOff p) at v);
     }
-  where
-    inner : (d : ℕ) → d ≤ horizon (given cutOff p) → d ≤ horizon p
-    inner d v = rw (sym (given-horizon cutOff p)) v
 
 -- The whole numbers of a pair cross, and are equal, as its natural numbers do.
 pub crossed-given : (c : Pair) → Crossed whole (given whole c) ↔ Crossed cutOff c
@@ -32,8 +29,7 @@ crossed-given c = (there, back)
     there : Crossed whole (given whole c) → Crossed cutOff c
     there x =
         let v : x .window ≤ horizon c = rw (given-horizon whole c) at (x .within) in
-        let l : pos (ceiling c (x .window)) <ℤ pos (least c (x .window)) =
-        rw (given-upper whole c (x .window) (x .positive) v, given-lower whole c (x .window) (x .positive) v) at (x .above) in
+        let l = rw (given-upper whole c (x .window) (x .positive) v, given-lower whole c (x .window) (x .positive) v) at (x .above) in
         record { window = x .window; positive = x .positive; within = v; above = omega (arith, lt-parts _ _ l) }
 
     back : Crossed cutOff c → Crossed whole (given whole c)
@@ -48,26 +44,17 @@ crossed-given c = (there, back)
         }
 
 pub same-given : (c e : Pair) → Same (pos 0) (given whole c) (given whole e) → Equal c e
-same-given c e q = record { horizons = hor; uppers = upper; lowers = lower }
-  where
-    hor : horizon c ≡ horizon e
-    hor = sym (given-horizon whole c) ∙ q .horizons ∙ given-horizon whole e
+same-given c e q =
+    let hor : horizon c ≡ horizon e = cc (given-horizon whole c, q .horizons, given-horizon whole e) in
+    let outer : (d : ℕ) → d ≤ horizon c → d ≤ horizon (given whole c) = λ d v. rw (given-horizon whole c) v in
+    record {
+      horizons = hor;
+      uppers = λ d u v. cc (given-upper whole c d u v, q .uppers d u (outer d v), given-upper whole e d u (rw (sym hor) v));
+      lowers = λ d u v. cc (given-lower whole c d u v, q .lowers d u (outer d v), given-lower whole e d u (rw (sym hor) v));
+    }
 
-    upper : (d : ℕ) → 1 ≤ d → d ≤ horizon c → ceiling c d ≡ ceiling e d
-    upper d u v =
-        ap natAbs
-        (sym (given-upper whole c d u v) ∙ q .uppers d u (rw (given-horizon whole c) v) ∙ given-upper whole e d u (rw (sym hor) v))
-
-    lower : (d : ℕ) → 1 ≤ d → d ≤ horizon c → least c d ≡ least e d
-    lower d u v =
-        ap natAbs
-        (sym (given-lower whole c d u v) ∙ q .lowers d u (rw (given-horizon whole c) v) ∙ given-lower whole e d u (rw (sym hor) v))
-
-pub same-refl : {N : Type 0} (z : N) (c : Curves N) → Same z c c
-same-refl z c = record { horizons = refl; uppers = λ d u v. refl; lowers = λ d u v. refl }
-
-pub given-same-whole : (c e : Pair) → Equal c e → Same (pos 0) (given whole c) (given whole e)
-given-same-whole c e q = subst (λ (x : Curves ℤ). Same (pos 0) (given whole c) x) (given-same whole c e q) (same-refl (pos 0) (given whole c))
+given-same-whole : (c e : Pair) → Equal c e → Same (pos 0) (given whole c) (given whole e)
+given-same-whole c e q = rw (given-same whole c e q) (same-refl (pos 0) (given whole e))
 
 -- An uncrossed pair settles exactly where its whole numbers do.
 settled-given : (c : Pair) → ¬ Crossed cutOff c → Settled whole (given whole c) ↔ Settled cutOff c
@@ -79,7 +66,8 @@ settled-given c n = ⊎-elim agree cross (round-agrees c)
       (λ s. rw e (given-same-whole (round cutOff c) c s)),
     )
 
-    cross : Crossed whole (round whole (given whole c)) × Crossed cutOff (round cutOff c) → Settled whole (given whole c) ↔ Settled cutOff c
+    cross : Crossed whole (round whole (given whole c)) × Crossed cutOff (round cutOff c)
+        → Settled whole (given whole c) ↔ Settled cutOff c
     cross x = (
       (λ s. absurd (n (crossed-given c .0 (same-crossed whole _ _ s (x .0))))),
       (λ s. absurd (n (same-crossed cutOff _ _ s (x .1)))),
@@ -101,15 +89,18 @@ module _ (p : Pair) where
   crossed-iff : (n : ℕ) → Agrees n → Crossed whole (after whole n p) ↔ Crossed cutOff (after cutOff n p)
   crossed-iff n = ⊎-elim (λ e. rw e (crossed-given (after cutOff n p))) (λ x. ((λ y. x .1), (λ y. x .0)))
 
-  settled-iff : (n : ℕ) → Agrees n → ¬ Crossed cutOff (after cutOff n p) → Settled whole (after whole n p) ↔ Settled cutOff (after cutOff n p)
+  settled-iff : (n : ℕ) → Agrees n → ¬ Crossed cutOff (after cutOff n p)
+      → Settled whole (after whole n p) ↔ Settled cutOff (after cutOff n p)
   settled-iff n a h = ⊎-elim (λ e. rw e (settled-given (after cutOff n p) h)) (λ x. absurd (h (x .1))) a
 
   -- Uncrossed before round n in one arithmetic, so in the other.
-  uncrossed : (n : ℕ) → ((k : ℕ) → k < n → ¬ Crossed whole (after whole k p)) → (k : ℕ) → k < n → ¬ Crossed cutOff (after cutOff k p)
+  uncrossed : (n : ℕ) → ((k : ℕ) → k < n → ¬ Crossed whole (after whole k p))
+      → (k : ℕ) → k < n → ¬ Crossed cutOff (after cutOff k p)
   uncrossed zero h k l = absurd (omega arith)
   uncrossed (suc n) h k l =
       let before : (j : ℕ) → j < n → ¬ Crossed cutOff (after cutOff j p) = uncrossed n (λ j i. h j (le-step i)) in
-      below-suc (λ j. ¬ Crossed cutOff (after cutOff j p)) n before (λ x. h n (le-refl (suc n)) (crossed-iff n (agree n before) .1 x)) k l
+      below-suc (λ j. ¬ Crossed cutOff (after cutOff j p)) n before
+      (λ x. h n (le-refl (suc n)) (crossed-iff n (agree n before) .1 x)) k l
 
   runs-cut : (n : ℕ) → Runs whole p n → Runs cutOff p n
   runs-cut n r =
@@ -129,14 +120,17 @@ module _ (p : Pair) where
 
   pub crosses-agree : (n : ℕ) → Crosses whole p n ↔ Crosses cutOff p n
   crosses-agree n = (
-    (λ x. let r : Runs cutOff p n = runs-cut n (x .runs) in record { runs = r; crossed = crossed-iff n (agree n (r .uncrossed)) .0 (x .crossed) }),
+    (λ x.
+        let r : Runs cutOff p n = runs-cut n (x .runs) in
+        record { runs = r; crossed = crossed-iff n (agree n (r .uncrossed)) .0 (x .crossed) }),
     (λ x. record { runs = runs-whole n (x .runs); crossed = crossed-iff n (agree n (x .runs .uncrossed)) .1 (x .crossed) }),
   )
 
   pub arrives-agree : (n : ℕ) (q : Pair) → Arrives whole p n q ↔ Arrives cutOff p n q
   arrives-agree n q = (there, back)
     where
-      figures : Agrees n → ¬ Crossed cutOff (after cutOff n p) → Same (pos 0) (after whole n p) (given whole q) ↔ Same 0 (after cutOff n p) (given cutOff q)
+      figures : Agrees n → ¬ Crossed cutOff (after cutOff n p)
+          → Same (pos 0) (after whole n p) (given whole q) ↔ Same 0 (after cutOff n p) (given cutOff q)
       figures a h =
           ⊎-elim
           (λ e. rw e (

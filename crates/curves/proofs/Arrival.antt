@@ -1,19 +1,18 @@
 -- Theorem 1: the rounds of a pair arrive or cross, one of the two, once; and arrive within the pair's slack. Assumes nothing.
 use Prim.Native.Nat.{ℕ, zero, suc, _+_, _-_, _≤_, _<_}
-use mathlib.Core.Path.{_≡_, refl, sym, ap, ap₂, _∙_, subst}
-use mathlib.Core.Logic.{_↔_, _⊎_, inl, inr, ⊎-elim}
+use mathlib.Core.Path.{_≡_, sym, ap₂}
+use mathlib.Core.Logic.{_⊎_, inl, inr, ⊎-elim}
 use native.Mathlib.Nat.{le-refl}
 use native.Mathlib.Omega.{arith}
-use native.Mathlib.Decide.{decLe, decLt, ℕ-discrete}
-use lib.IntN.{ℤ, pos}
-use Rattle.laws.specs.Ranges.{fold}
+use native.Mathlib.Decide.{decLe, ℕ-discrete}
+use lib.IntN.{pos}
 use Rattle.laws.proofs.Best.{fold-ext}
 use Rattle.laws.proofs.Search.{every, below-suc}
-use Rattle.curves.specs.Pairs.{Curves, horizon, Same, Pair, ceiling, least, Equal, slack}
-use Rattle.curves.specs.Rounds.{Arithmetic, whole, cutOff, given, round, after, Crossed, Settled, Runs, Arrives, Crosses}
+use Rattle.curves.specs.Pairs.{horizon, Pair, ceiling, least, Equal, slack}
+use Rattle.curves.specs.Rounds.{Arithmetic, cutOff, given, round, after, Crossed, Settled, Runs, Arrives, Crosses}
 use Rattle.curves.specs.Theorems.{Closes, ArrivesOrCrosses, NeverBoth, ArrivesOnce, CrossesOnce, RoundsWithinSlack}
 use Rattle.curves.proofs.Figures.{round-horizon, same-sym, same-trans}
-use Rattle.curves.proofs.Weight.{weight, weight-falls, slack-falls, below}
+use Rattle.curves.proofs.Weight.{weight, weight-falls, slack-falls}
 use Rattle.curves.proofs.Agreement.{given-equal, same-given, arrives-agree, crosses-agree}
 
 -- ---- whether a pair's figures cross, and whether a round changes one, can be told
@@ -25,10 +24,17 @@ crossed? c = ⊎-elim (λ h. inl (λ x. none h x)) inr (every (λ d. least c d �
 
     one : (d : ℕ) → 1 ≤ d → d ≤ horizon c → (least c d ≤ ceiling c d) ⊎ Crossed cutOff c
     one d u v =
-        elim (decLe (least c d) (ceiling c d)) [ yes h ↦ inl h | no h ↦ inr (record { window = d; positive = u; within = v; above = omega arith }) ]
+        elim (decLe (least c d) (ceiling c d)) [
+          | yes h ↦ inl h
+          | no h ↦ inr (record { window = d; positive = u; within = v; above = omega arith })
+        ]
 
 unfoldable pub equal? : (c e : Pair) → horizon c ≡ horizon e → Equal c e ⊎ ¬ Equal c e
-equal? c e s = ⊎-elim (λ h. inl (record { horizons = s; uppers = λ d u v. h d u v .0; lowers = λ d u v. h d u v .1 })) inr (every _ (¬ Equal c e) (horizon c) one)
+equal? c e s =
+    ⊎-elim
+    (λ h. inl (record { horizons = s; uppers = λ d u v. h d u v .0; lowers = λ d u v. h d u v .1 }))
+    inr
+    (every _ (¬ Equal c e) (horizon c) one)
   where
     one : (d : ℕ) → 1 ≤ d → d ≤ horizon c → ((ceiling c d ≡ ceiling e d) × (least c d ≡ least e d)) ⊎ ¬ Equal c e
     one d u v =
@@ -38,7 +44,8 @@ equal? c e s = ⊎-elim (λ h. inl (record { horizons = s; uppers = λ d u v. h 
         ]
 
 -- ---- one round more
-pub runs-more : (A : Arithmetic) (p : Pair) (n : ℕ) → Runs A p n → ¬ Crossed A (after A n p) → ¬ Settled A (after A n p) → Runs A p (suc n)
+pub runs-more : (A : Arithmetic) (p : Pair) (n : ℕ) → Runs A p n → ¬ Crossed A (after A n p) → ¬ Settled A (after A n p)
+    → Runs A p (suc n)
 runs-more A p n r h s =
     record {
       uncrossed = below-suc (λ k. ¬ Crossed A (after A k p)) n (r .uncrossed) h;
@@ -73,41 +80,30 @@ arrives-or-crosses p =
     (ends-from p (suc (weight (after cutOff 0 p))) 0 (le-refl _) (runs-none cutOff p))
 
 -- ---- once
+-- Numbers of rounds of which neither is before the other are one.
+neither : {m n : ℕ} → ¬ (m < n) → ¬ (n < m) → m ≡ n
+neither f g = omega arith
+
 pub never-both : NeverBoth
 never-both p q m n a x =
-    elim (decLt m n) [
-      | yes l ↦ x .runs .changes m l (a .settled)
-      | no g ↦ elim (decLt n m) [ yes l ↦ a .runs .uncrossed n l (x .crossed) | no g′ ↦ at (omega arith) ]
-    ]
-  where
-    at : n ≡ m → ⊥
-    at e = a .uncrossed (rw e at (x .crossed))
-
-one-number : (p q r : Pair) (m n : ℕ) → Arrives whole p m q → Arrives whole p n r → m ≡ n
-one-number p q r m n a b =
-    elim (decLt m n) [
-      | yes l ↦ absurd (b .runs .changes m l (a .settled))
-      | no g ↦ elim (decLt n m) [ yes l ↦ absurd (a .runs .changes n l (b .settled)) | no g′ ↦ omega arith ]
-    ]
+    let e : n ≡ m = neither (λ l. a .runs .uncrossed n l (x .crossed)) (λ l. x .runs .changes m l (a .settled)) in
+    a .uncrossed (rw e at (x .crossed))
 
 pub arrives-once : ArrivesOnce
 arrives-once p q r m n a b =
-    let e : m ≡ n = one-number p q r m n a b in
+    let e : m ≡ n = neither (λ l. b .runs .changes m l (a .settled)) (λ l. a .runs .changes n l (b .settled)) in
     (e, same-given q r (same-trans (pos 0) _ _ _ (same-sym (pos 0) _ _ (a .figures)) (rw (sym e) at (b .figures))))
 
 pub crosses-once : CrossesOnce
-crosses-once p m n a b =
-    elim (decLt m n) [
-      | yes l ↦ absurd (b .runs .uncrossed m l (a .crossed))
-      | no g ↦ elim (decLt n m) [ yes l ↦ absurd (a .runs .uncrossed n l (b .crossed)) | no g′ ↦ omega arith ]
-    ]
+crosses-once p m n a b = neither (λ l. b .runs .uncrossed m l (a .crossed)) (λ l. a .runs .uncrossed n l (b .crossed))
 
 -- ---- within the slack
 slack-equal : (p q : Pair) → Equal p q → slack p ≡ slack q
 slack-equal p q s =
-    fold-ext _+_ 0 _ (λ d. ceiling q d - least q d) (horizon p) (λ d u v. ap₂ _-_ (s .uppers d u v) (s .lowers d u v)) ∙ ap (fold _+_ 0 (λ d. ceiling q d - least q d)) (s .horizons)
+    rw (sym (s .horizons)) (fold-ext _+_ 0 _ _ (horizon p) (λ d u v. ap₂ _-_ (s .uppers d u v) (s .lowers d u v)))
 
-slack-left : (p : Pair) (n : ℕ) → Runs cutOff p n → ¬ Crossed cutOff (after cutOff n p) → (k : ℕ) → k ≤ n → k + slack (after cutOff k p) ≤ slack p
+slack-left : (p : Pair) (n : ℕ) → Runs cutOff p n → ¬ Crossed cutOff (after cutOff n p)
+    → (k : ℕ) → k ≤ n → k + slack (after cutOff k p) ≤ slack p
 unfolding after
 slack-left p n r h zero l = omega (arith, slack-equal (given cutOff p) p (given-equal p))
 slack-left p n r h (suc k) l =

@@ -1,8 +1,8 @@
 -- Questions asked in order: what `ask` says is settled by the questions alone. Assumes nothing.
 use Prim.Native.Nat.{ℕ}
-use mathlib.Core.Path.{_≡_, refl, sym, _∙_}
+use mathlib.Core.Path.{_≡_, sym, _∙_}
 use mathlib.Core.List.{List, [], _∷_}
-use mathlib.Core.Logic.{_⊎_, inl, inr, ⊎-elim}
+use mathlib.Core.Logic.{⊎-elim}
 use Rattle.curves.specs.Questions.{Question, AllYes, FirstNo}
 
 pub not-both : (qs : List Question) (n : ℕ) → AllYes qs → FirstNo qs n → ⊥

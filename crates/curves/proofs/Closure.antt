@@ -1,23 +1,21 @@
 -- What a closure is worth, for a pair p whose rounds arrive at q: q is causal, has the streams of p, and its conforming starts are theirs.
 -- Assumes nothing.
-use Prim.Native.Nat.{ℕ, zero, suc, _+_, _≤_, _<_}
-use mathlib.Core.Path.{_≡_, refl, sym, ap, _∙_, subst}
-use mathlib.Core.List.{List, [], _∷_, _++_}
-use mathlib.Core.Logic.{_↔_, _⊎_, Iff·trans, Iff·symm}
-use native.Mathlib.Nat.{le-refl}
+use Prim.Native.Nat.{ℕ, _≤_}
+use mathlib.Core.Path.{_≡_, sym, _∙_}
+use mathlib.Core.List.{List}
+use mathlib.Core.Logic.{_↔_}
 use native.Mathlib.Omega.{arith}
-use lib.IntN.{ℤ, pos}
-use lib.ListN.{length, getD}
-use lib.Seq.{ext-getD}
-use Rattle.laws.proofs.Table.{length-table}
+use lib.IntN.{pos}
 use Rattle.curves.specs.Streams.{sum, Begins}
-use Rattle.curves.specs.Pairs.{Curves, horizon, figure, Same, Pair, ceiling, least, Equal}
-use Rattle.curves.specs.Conformance.{Inside, Conforms, Conforms∞}
-use Rattle.curves.specs.Rounds.{Arithmetic, whole, given, round, after, Crossed, Settled, Arrives, Causal}
-use Rattle.curves.specs.Theorems.{RoundsKeepStreams, CrossedHasNoStream, CutOffArrives, CutOffCrosses, ClosureIsCausal, CausalIffOwnClosure, CausalTakesNoRound, OneMoreTick}
-use Rattle.curves.proofs.Figures.{given-same, given-horizon, after-horizon}
+use Rattle.curves.specs.Pairs.{horizon, Pair, ceiling, least, Equal}
+use Rattle.curves.specs.Conformance.{Conforms, Conforms∞}
+use Rattle.curves.specs.Rounds.{whole, given, after, Arrives}
+use Rattle.curves.specs.Theorems.{RoundsKeepStreams, CrossedHasNoStream, CutOffArrives, CutOffCrosses}
+use Rattle.curves.specs.Theorems.{ClosureIsCausal, CausalIffOwnClosure, CausalTakesNoRound, OneMoreTick}
+pub use Rattle.curves.proofs.Figures.{given-full}
+use Rattle.curves.proofs.Figures.{same-refl, full-same, after-full, given-same, given-horizon, after-horizon}
 use Rattle.curves.proofs.Kept.{rounds-keep, crossed-none}
-use Rattle.curves.proofs.Agreement.{arrives-agree, crosses-agree, same-refl}
+use Rattle.curves.proofs.Agreement.{arrives-agree, crosses-agree}
 use Rattle.curves.proofs.Arrival.{runs-none}
 use Rattle.curves.proofs.Closed.{Closed, closed}
 use Rattle.curves.proofs.Extension.{extends, start-conforms}
@@ -36,32 +34,10 @@ cut-off-arrives = arrives-agree
 pub cut-off-crosses : CutOffCrosses
 cut-off-crosses = crosses-agree
 
--- ---- curves whose lists are both as long as the horizon are equal where their figures are
-same-lists : {N : Type 0} (z : N) (us vs : List N) → length us ≡ length vs → ((d : ℕ) → 1 ≤ d → d ≤ length us → figure z us d ≡ figure z vs d) → us ≡ vs
-unfolding figure
-same-lists z us vs e h = ext-getD z us vs e (λ i l. h (suc i) (omega arith) l)
-
-full-same : {N : Type 0} (z : N) (c e : Curves N) → length (c .lower) ≡ horizon c → length (e .lower) ≡ horizon e → Same z c e → c ≡ e
-full-same z c e f f′ s =
-    λ i.
-    record {
-      upper = same-lists z (c .upper) (e .upper) (s .horizons) (s .uppers) i;
-      lower = same-lists z (c .lower) (e .lower) (f ∙ s .horizons ∙ sym f′) (λ d u v. s .lowers d u (rw (sym f) v)) i;
-    }
-
-pub given-full : (A : Arithmetic) (p : Pair) → length (given A p .lower) ≡ horizon (given A p)
-unfolding given
-given-full A p = length-table _ (horizon p) ∙ sym (length-table _ (horizon p))
-
-after-full : (A : Arithmetic) (n : ℕ) (p : Pair) → length (after A n p .lower) ≡ horizon (after A n p)
-unfolding after round
-after-full A zero p = given-full A p
-after-full A (suc n) p = length-table _ (horizon (after A n p)) ∙ sym (length-table _ (horizon (after A n p)))
-
 -- ---- the closure is causal
 pub closure-is-causal : ClosureIsCausal
 closure-is-causal p q n a =
-    let e : after whole n p ≡ given whole q = full-same (pos 0) (after whole n p) (given whole q) (after-full whole n p) (given-full whole q) (a .figures) in
+    let e : after whole n p ≡ given whole q = full-same (pos 0) _ _ (after-full whole n p) (given-full whole q) (a .figures) in
     record { uncrossed = rw e at (a .uncrossed); settled = rw e at (a .settled) }
 
 pub causal-takes-no-round : CausalTakesNoRound
@@ -124,7 +100,8 @@ arrives-equal p q r n a e =
     record { runs = a .runs; uncrossed = a .uncrossed; settled = a .settled; figures = rw (given-same whole q r e) at (a .figures) }
 
 -- No figure of the closure is above the pair's ceiling: a conforming stream meets the closure's.
-pub closure-figures : (p q : Pair) (n : ℕ) → Arrives whole p n q → (d : ℕ) → 1 ≤ d → d ≤ horizon p → (ceiling q d ≤ ceiling p d) × (least q d ≤ ceiling p d)
+pub closure-figures : (p q : Pair) (n : ℕ) → Arrives whole p n q → (d : ℕ) → 1 ≤ d → d ≤ horizon p
+    → (ceiling q d ≤ ceiling p d) × (least q d ≤ ceiling p d)
 closure-figures p q n a d u v =
     let (s, c, f) = closure-upper p q n a (omega arith) in
     let (t, k, g) = closure-lower p q n a (omega arith) in

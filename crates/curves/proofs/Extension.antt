@@ -1,13 +1,12 @@
 -- For ever: on a closed pair a finite stream conforms exactly where it begins an unbounded one that does. Assumes nothing.
 use Prim.Native.Nat.{ℕ, zero, suc, _+_, _-_, _≤_, _<_}
-use mathlib.Core.Path.{_≡_, refl, sym, ap, _∙_, subst}
+use mathlib.Core.Path.{_≡_, sym, ap, _∙_}
 use mathlib.Core.List.{List, [], _∷_, _++_}
-use mathlib.Core.Logic.{_↔_}
 use native.Mathlib.Nat.{add-zero, add-suc, le-refl}
 use native.Mathlib.Omega.{arith}
 use native.Mathlib.Decide.{decLe}
-use lib.ListN.{length, getD, length-append, List·getD-append}
-use Rattle.curves.specs.Streams.{sum, countsOf, Begins}
+use lib.ListN.{length, length-append, List·getD-append}
+use Rattle.curves.specs.Streams.{countsOf, Begins}
 use Rattle.curves.specs.Pairs.{Pair, horizon}
 use Rattle.curves.specs.Conformance.{Conforms, Conforms∞}
 use Rattle.curves.proofs.Sums.{local}

@@ -1,17 +1,18 @@
--- A round's figures: each is the best of its candidates, in the order in which `best` chooses; upper and lower are one law.
--- Assumes nothing.
+-- Figures: those of equal curves, of a pair and of a round. A round's are each the best of its candidates, in the order in which
+-- `best` chooses, so that upper and lower are one law. Assumes nothing.
 use Prim.Native.Nat.{ℕ, zero, suc, _+_, _-_, _≤_, _<_}
-use mathlib.Core.Path.{_≡_, refl, sym, ap, _∙_, subst, subst₂}
-use native.Mathlib.Omega.{arith}
+use mathlib.Core.Path.{_≡_, refl, sym, ap, _∙_, subst₂}
 use mathlib.Core.List.{List}
+use native.Mathlib.Omega.{arith}
 use lib.ListN.{length, getD}
+use lib.Seq.{ext-getD}
 use Rattle.laws.specs.Ranges.{fold, table}
 use Rattle.laws.proofs.Best.{IsBest, fold-first, fold-each, fold-both}
 use Rattle.laws.proofs.Table.{length-table, getD-table, table-self, table-same}
 use Rattle.curves.specs.Pairs.{Curves, horizon, figure, Same, Pair, ceiling, least}
 use Rattle.curves.specs.Rounds.{Arithmetic, cutOff, newFigure, round, given, after, upperAt, lowerAt, Crossed}
 
-pub figure-table : {N : Type 0} (z : N) (f : ℕ → N) (n d : ℕ) → 1 ≤ d → d ≤ n → figure z (table f n) d ≡ f d
+figure-table : {N : Type 0} (z : N) (f : ℕ → N) (n d : ℕ) → 1 ≤ d → d ≤ n → figure z (table f n) d ≡ f d
 unfolding figure
 figure-table z f n zero p q = absurd (omega arith)
 figure-table z f n (suc d) p q = getD-table f n d z q
@@ -22,6 +23,7 @@ unfolding figure
 figure-entry z us zero p = absurd (omega arith)
 figure-entry z us (suc d) p = let e : suc d - 1 ≡ d = omega arith in rw e
 
+-- A pair with as many leasts as ceilings is its own figures.
 pub given-self : (p : Pair) → length (p .lower) ≡ length (p .upper) → given cutOff p ≡ p
 unfolding given figure
 given-self p e = λ i. record { upper = table-self (ceiling p) (p .upper) 0 (λ k l. refl) i; lower = lowers i }
@@ -29,8 +31,11 @@ given-self p e = λ i. record { upper = table-self (ceiling p) (p .upper) 0 (λ 
     lowers : table (λ d. least p d) (horizon p) ≡ p .lower
     lowers = rw (sym e) (table-self (least p) (p .lower) 0 (λ k l. refl))
 
--- Equality of curves is an equivalence.
+-- Equality of curves is an equivalence; with both lists as long as the horizon, equal curves are one.
 module _ {N : Type 0} (z : N) where
+  pub same-refl : (c : Curves N) → Same z c c
+  same-refl c = record { horizons = refl; uppers = λ d u v. refl; lowers = λ d u v. refl }
+
   pub same-sym : (c e : Curves N) → Same z c e → Same z e c
   same-sym c e q =
       record {
@@ -47,6 +52,19 @@ module _ {N : Type 0} (z : N) where
         lowers = λ d u v. q .lowers d u v ∙ r .lowers d u (rw (sym (q .horizons)) v);
       }
 
+  pub same-lists : (us vs : List N) → length us ≡ length vs
+      → ((d : ℕ) → 1 ≤ d → d ≤ length us → figure z us d ≡ figure z vs d) → us ≡ vs
+  unfolding figure
+  same-lists us vs e h = ext-getD z us vs e (λ i l. h (suc i) (omega arith) l)
+
+  pub full-same : (c e : Curves N) → length (c .lower) ≡ horizon c → length (e .lower) ≡ horizon e → Same z c e → c ≡ e
+  full-same c e f f′ s =
+      λ i.
+      record {
+        upper = same-lists (c .upper) (e .upper) (s .horizons) (s .uppers) i;
+        lower = same-lists (c .lower) (e .lower) (f ∙ s .horizons ∙ sym f′) (λ d u v. s .lowers d u (rw (sym f) v)) i;
+      }
+
 module _ (A : Arithmetic) where
   pub round-horizon : (c : Curves (A .Number)) → horizon (round A c) ≡ horizon c
   unfolding round
@@ -61,13 +79,27 @@ module _ (A : Arithmetic) where
   after-horizon zero p = given-horizon p
   after-horizon (suc n) p = round-horizon (after A n p) ∙ after-horizon n p
 
+  -- Both lists are as long as the horizon.
+  pub round-full : (c : Curves (A .Number)) → length (round A c .lower) ≡ horizon (round A c)
+  unfolding round
+  round-full c = length-table _ (horizon c) ∙ sym (length-table _ (horizon c))
+
+  pub given-full : (p : Pair) → length (given A p .lower) ≡ horizon (given A p)
+  unfolding given
+  given-full p = length-table _ (horizon p) ∙ sym (length-table _ (horizon p))
+
+  pub after-full : (n : ℕ) (p : Pair) → length (after A n p .lower) ≡ horizon (after A n p)
+  unfolding after
+  after-full zero p = given-full p
+  after-full (suc n) p = round-full (after A n p)
+
   pub given-upper : (p : Pair) (d : ℕ) → 1 ≤ d → d ≤ horizon p → upperAt A (given A p) d ≡ A .of (ceiling p d)
   unfolding given
-  given-upper p d u v = figure-table (A .of 0) (λ k. A .of (ceiling p k)) (horizon p) d u v
+  given-upper p = figure-table (A .of 0) _ (horizon p)
 
   pub given-lower : (p : Pair) (d : ℕ) → 1 ≤ d → d ≤ horizon p → lowerAt A (given A p) d ≡ A .of (least p d)
   unfolding given
-  given-lower p d u v = figure-table (A .of 0) (λ k. A .of (least p k)) (horizon p) d u v
+  given-lower p = figure-table (A .of 0) _ (horizon p)
 
   -- Equal pairs have equal figures of any kind.
   pub given-same : (c e : Pair) → Same 0 c e → given A c ≡ given A e
@@ -85,17 +117,29 @@ module _ (A : Arithmetic) where
         window = x .window;
         positive = x .positive;
         within = rw (sym (q .horizons)) (x .within);
-        above = subst₂ (A .Below) (q .uppers (x .window) (x .positive) (x .within)) (q .lowers (x .window) (x .positive) (x .within)) (x .above);
+        above =
+            subst₂ (A .Below)
+            (q .uppers (x .window) (x .positive) (x .within))
+            (q .lowers (x .window) (x .positive) (x .within))
+            (x .above);
       }
 
-  pub round-upper : (c : Curves (A .Number)) (d : ℕ) → 1 ≤ d → d ≤ horizon c → upperAt A (round A c) d ≡ newFigure A (A .smaller) (horizon c) (upperAt A c) (lowerAt A c) d
-  unfolding round
-  round-upper c d u v = figure-table (A .of 0) (newFigure A (A .smaller) (horizon c) (upperAt A c) (lowerAt A c)) (horizon c) d u v
+  -- A round's new ceiling and new least of a window.
+  abbrev pub newUpper : Curves (A .Number) → ℕ → A .Number
+  newUpper c = newFigure A (A .smaller) (horizon c) (upperAt A c) (lowerAt A c)
 
-  pub round-lower : (c : Curves (A .Number)) (d : ℕ) → 1 ≤ d → d ≤ horizon c → lowerAt A (round A c) d ≡ newFigure A (A .larger) (horizon c) (lowerAt A c) (upperAt A c) d
-  unfolding round
-  round-lower c d u v = figure-table (A .of 0) (newFigure A (A .larger) (horizon c) (lowerAt A c) (upperAt A c)) (horizon c) d u v
+  abbrev pub newLower : Curves (A .Number) → ℕ → A .Number
+  newLower c = newFigure A (A .larger) (horizon c) (lowerAt A c) (upperAt A c)
 
+  pub round-upper : (c : Curves (A .Number)) (d : ℕ) → 1 ≤ d → d ≤ horizon c → upperAt A (round A c) d ≡ newUpper c d
+  unfolding round
+  round-upper c = figure-table (A .of 0) (newUpper c) (horizon c)
+
+  pub round-lower : (c : Curves (A .Number)) (d : ℕ) → 1 ≤ d → d ≤ horizon c → lowerAt A (round A c) d ≡ newLower c d
+  unfolding round
+  round-lower c = figure-table (A .of 0) (newLower c) (horizon c)
+
+  -- One curve's new figure: as good as each candidate, and no better than what is as good as each.
   module _ (R : A .Number → A .Number → Type 0) (best : A .Number → A .Number → A .Number) (B : IsBest R best)
       (H : ℕ) (own other : ℕ → A .Number) (d : ℕ) where
     sums : A .Number
@@ -111,7 +155,8 @@ module _ (A : Arithmetic) where
 
     pub new-plus : (a : ℕ) → 1 ≤ a → a < d → R (newFigure A best H own other d) (A .plus (own a) (own (d - a)))
     unfolding sums
-    new-plus a u v = B .chain _ _ _ new-sums (fold-each R best B (own d) (λ k. A .plus (own k) (own (d - k))) (d - 1) a u (omega arith))
+    new-plus a u v =
+        B .chain _ _ _ new-sums (fold-each R best B (own d) (λ k. A .plus (own k) (own (d - k))) (d - 1) a u (omega arith))
 
     pub new-minus : (t : ℕ) → 1 ≤ t → d + t ≤ H → R (newFigure A best H own other d) (A .minus (own (d + t)) (other t))
     unfolding newFigure

@@ -1,15 +1,16 @@
--- Every figure of a closed pair is met: one conforming stream follows the ceilings from its first tick, another the leasts. Assumes nothing.
+-- Every figure of a closed pair is met: one conforming stream follows the ceilings from its first tick, another the leasts.
+-- Assumes nothing.
 use Prim.Native.Nat.{ℕ, zero, suc, _+_, _-_, _≤_, _<_}
-use mathlib.Core.Path.{_≡_, refl, sym, ap, _∙_, subst}
+use mathlib.Core.Path.{_≡_, refl, sym, ap, _∙_}
 use mathlib.Core.List.{List}
-use native.Mathlib.Nat.{add-zero, add-suc, add-comm}
+use native.Mathlib.Nat.{add-zero, add-suc}
 use native.Mathlib.Omega.{arith}
-use lib.ListN.{length, getD}
+use lib.ListN.{length}
 use Rattle.laws.specs.Ranges.{table}
 use Rattle.laws.proofs.Table.{length-table, getD-table}
 use Rattle.curves.specs.Streams.{sum, countsOf}
 use Rattle.curves.specs.Pairs.{Pair, horizon, figure, ceiling, least}
-use Rattle.curves.specs.Conformance.{Inside, Conforms, Conforms∞}
+use Rattle.curves.specs.Conformance.{Conforms, Conforms∞}
 use Rattle.curves.proofs.Sums.{local}
 use Rattle.curves.proofs.Closed.{Closed}
 use Rattle.curves.proofs.Extension.{extends}
@@ -46,7 +47,7 @@ module _ (p : Pair) (C : Closed p) (h : 1 ≤ horizon p) (g : ℕ → ℕ) (none
       let l : i + d ≤ horizon p = (rw length-steps at w) in
       omega (arith, climb i d l, least-more i d l, most-more i d l)
 
-  pub follows : Follows p g
+  follows : Follows p g
   follows =
       let (s, b, c) = extends p C h steps steps-conform in
       (s, c, λ d l. sym (local (countsOf steps) s 0 d (λ k u v. b k (omega (arith, length-steps)))) ∙ from-start d l)

@@ -1,92 +1,82 @@
--- A round, and so any number of them, keeps exactly the same unbounded conforming streams; a crossed pair has none. Assumes nothing.
-use Prim.Native.Nat.{ℕ, zero, suc, _+_, _-_, _≤_, _<_}
-use mathlib.Core.Path.{_≡_, refl, sym, ap, _∙_, subst}
-use mathlib.Core.Logic.{_↔_, Iff·trans, Iff·symm, Iff·rfl}
+-- A round, and so any number of them, keeps exactly the same unbounded conforming streams; a crossed pair has none.
+-- Assumes nothing.
+use Prim.Native.Nat.{ℕ, zero, suc, _+_, _-_, _≤_}
+use mathlib.Core.Path.{_≡_, sym, subst}
+use mathlib.Core.Logic.{_↔_, Iff·trans}
 use native.Mathlib.Omega.{arith}
 use lib.IntN.{ℤ, pos, _+ℤ_, _-ℤ_, +ℤ-negℤ-cancel}
-use lib.Signed.{_≤ℤ_, _<ℤ_}
+use lib.Signed.{_≤ℤ_}
 use Rattle.laws.proofs.Best.{IsBest}
 use Rattle.laws.proofs.Whole.{le-parts, parts-le, lt-parts, smaller-best, larger-best, plus-mono, minus-mono}
 use Rattle.curves.specs.Streams.{sum}
-use Rattle.curves.specs.Pairs.{Curves, horizon, figure, Same, Pair, ceiling, least}
-use Rattle.curves.specs.Conformance.{Inside, Conforms∞}
+use Rattle.curves.specs.Pairs.{Curves, horizon, Same, Pair}
+use Rattle.curves.specs.Conformance.{Conforms∞}
 use Rattle.curves.specs.Rounds.{whole, given, round, after, newFigure, Crossed, upperAt, lowerAt}
 use Rattle.curves.proofs.Sums.{split, split-at}
-use Rattle.curves.proofs.Figures.{given-horizon, given-upper, given-lower, round-horizon, round-upper, round-lower, new-old, new-best, same-sym}
+use Rattle.curves.proofs.Figures.{given-horizon, given-upper, given-lower, round-horizon, round-upper, round-lower}
+use Rattle.curves.proofs.Figures.{new-old, new-best, same-sym}
+
+-- The sum of every window of s up to H stands in the order R to the window's figure in f.
+abbrev Bounds : (ℤ → ℤ → Type 0) → (ℕ → ℕ) → ℕ → (ℕ → ℤ) → Type 0
+Bounds R s H f = (i d : ℕ) → 1 ≤ d → d ≤ H → R (pos (sum s i d)) (f d)
 
 -- Every window of s keeps figures that may be negative.
-pub record Keeps (c : Curves ℤ) (s : ℕ → ℕ) : Type 0 where
-  pub most : (i d : ℕ) → 1 ≤ d → d ≤ horizon c → pos (sum s i d) ≤ℤ upperAt whole c d
-  pub fewest : (i d : ℕ) → 1 ≤ d → d ≤ horizon c → lowerAt whole c d ≤ℤ pos (sum s i d)
+record Keeps (c : Curves ℤ) (s : ℕ → ℕ) : Type 0 where
+  most : Bounds _≤ℤ_ s (horizon c) (upperAt whole c)
+  fewest : Bounds (λ x y. y ≤ℤ x) s (horizon c) (lowerAt whole c)
 
--- One curve against the other, in the order in which its figures bound the sums.
+-- One curve against the other, in the order in which its figures bound the sums: `own′` are its figures after a round.
 module _ (R : ℤ → ℤ → Type 0) (best : ℤ → ℤ → ℤ) (B : IsBest R best)
     (mono⁺ : (x y x′ y′ : ℤ) → R x y → R x′ y′ → R (x +ℤ x′) (y +ℤ y′))
     (mono⁻ : (x y x′ y′ : ℤ) → R x y → R y′ x′ → R (x -ℤ x′) (y -ℤ y′))
-    (s : ℕ → ℕ) (H : ℕ) (own other : ℕ → ℤ) where
-  keeps-new : ((i d : ℕ) → 1 ≤ d → d ≤ H → R (pos (sum s i d)) (own d))
-      → ((i d : ℕ) → 1 ≤ d → d ≤ H → R (other d) (pos (sum s i d)))
-      → (i d : ℕ) → 1 ≤ d → d ≤ H → R (pos (sum s i d)) (newFigure whole best H own other d)
-  keeps-new mine theirs i d u v =
-      new-best whole R best B H own other d (pos (sum s i d)) (mine i d u v)
+    (s : ℕ → ℕ) (H H′ : ℕ) (own other own′ : ℕ → ℤ) (same : H′ ≡ H)
+    (is : (d : ℕ) → 1 ≤ d → d ≤ H → own′ d ≡ newFigure whole best H own other d) where
+  keeps-new : Bounds R s H own → Bounds (λ x y. R y x) s H other → Bounds R s H′ own′
+  keeps-new mine theirs i d u v′ =
+      rw (is d u v)
+      (new-best whole R best B H own other d (pos (sum s i d)) (mine i d u v)
       (λ a p q.
       rw (split-at s i a (d - a) d (omega arith))
-      (mono⁺ (pos (sum s i a)) (own a) (pos (sum s (i + a) (d - a))) (own (d - a)) (mine i a p (omega arith)) (mine (i + a) (d - a) (omega arith) (omega arith))))
+      (mono⁺ _ (own a) _ (own (d - a)) (mine i a p (omega arith)) (mine (i + a) (d - a) (omega arith) (omega arith))))
       (λ t p q.
       subst (λ (z : ℤ). R z (own (d + t) -ℤ other t)) (less t)
-      (mono⁻ (pos (sum s i (d + t))) (own (d + t)) (pos (sum s (i + d) t)) (other t) (mine i (d + t) (omega arith) q) (theirs (i + d) t p (omega arith))))
+      (mono⁻ _ (own (d + t)) _ (other t) (mine i (d + t) (omega arith) q) (theirs (i + d) t p (omega arith)))))
     where
+      v : d ≤ H
+      v = rw same at v′
+
       less : (t : ℕ) → pos (sum s i (d + t)) -ℤ pos (sum s (i + d) t) ≡ pos (sum s i d)
       less t = rw (split s i d t) (+ℤ-negℤ-cancel (pos (sum s i d)) (pos (sum s (i + d) t)))
 
+  keeps-old : Bounds R s H′ own′ → Bounds R s H own
+  keeps-old k i d u v =
+      B .chain _ _ _ (rw (is d u v) at (k i d u (rw same v))) (new-old whole R best B H own other d)
+
+  keeps-round : (Bounds R s H own → Bounds (λ x y. R y x) s H other → Bounds R s H′ own′) × (Bounds R s H′ own′ → Bounds R s H own)
+  keeps-round = (keeps-new, keeps-old)
+
 module _ (s : ℕ → ℕ) where
   round-keeps : (c : Curves ℤ) → Keeps c s ↔ Keeps (round whole c) s
-  round-keeps c = (there, back)
-    where
-      inner : (d : ℕ) → d ≤ horizon (round whole c) → d ≤ horizon c
-      inner d v = rw (sym (round-horizon whole c)) v
-
-      there : Keeps c s → Keeps (round whole c) s
-      there k =
-          record {
-            most =
-                λ i d u v.
-                rw (round-upper whole c d u (inner d v))
-                (keeps-new _≤ℤ_ (whole .smaller) smaller-best plus-mono minus-mono s (horizon c) (upperAt whole c) (lowerAt whole c) (k .most) (k .fewest) i d u (inner d v));
-            fewest =
-                λ i d u v.
-                rw (round-lower whole c d u (inner d v))
-                (keeps-new (λ x y. y ≤ℤ x) (whole .larger) larger-best (λ x y x′ y′. plus-mono y x y′ x′) (λ x y x′ y′. minus-mono y x y′ x′) s (horizon c) (lowerAt whole c) (upperAt whole c) (k .fewest) (k .most) i d u (inner d v));
-          }
-
-      outer : (d : ℕ) → d ≤ horizon c → d ≤ horizon (round whole c)
-      outer d v = rw (round-horizon whole c) v
-
-      back : Keeps (round whole c) s → Keeps c s
-      back k =
-          record {
-            most =
-                λ i d u v.
-                smaller-best .chain _ _ _ (rw (round-upper whole c d u v) at (k .most i d u (outer d v)))
-                (new-old whole _≤ℤ_ (whole .smaller) smaller-best (horizon c) (upperAt whole c) (lowerAt whole c) d);
-            fewest =
-                λ i d u v.
-                larger-best .chain _ _ _ (rw (round-lower whole c d u v) at (k .fewest i d u (outer d v)))
-                (new-old whole (λ x y. y ≤ℤ x) (whole .larger) larger-best (horizon c) (lowerAt whole c) (upperAt whole c) d);
-          }
+  round-keeps c =
+      let (new-most, old-most) = keeps-round _≤ℤ_ (whole .smaller) smaller-best plus-mono minus-mono s (horizon c) _
+      (upperAt whole c) (lowerAt whole c) _ (round-horizon whole c) (round-upper whole c) in
+      let (new-fewest, old-fewest) = keeps-round (λ x y. y ≤ℤ x) (whole .larger) larger-best
+      (λ x y x′ y′. plus-mono y x y′ x′) (λ x y x′ y′. minus-mono y x y′ x′) s (horizon c) _
+      (lowerAt whole c) (upperAt whole c) _ (round-horizon whole c) (round-lower whole c) in (
+        (λ k. record { most = new-most (k .most) (k .fewest); fewest = new-fewest (k .fewest) (k .most) }),
+        (λ k. record { most = old-most (k .most); fewest = old-fewest (k .fewest) }),
+      )
 
   given-keeps : (p : Pair) → Conforms∞ p s ↔ Keeps (given whole p) s
   given-keeps p = (there, back)
     where
       there : Conforms∞ p s → Keeps (given whole p) s
       there c =
+          let inner : (d : ℕ) → d ≤ horizon (given whole p) → d ≤ horizon p = λ d v. rw (given-horizon whole p) at v in
           record {
-            most = λ i d u v. rw (given-upper whole p d u (inner d v)) (parts-le (pos (sum s i d)) (pos (ceiling p d)) (omega (arith, c i d u (inner d v))));
-            fewest = λ i d u v. rw (given-lower whole p d u (inner d v)) (parts-le (pos (least p d)) (pos (sum s i d)) (omega (arith, c i d u (inner d v))));
+            most = λ i d u v. rw (given-upper whole p d u (inner d v)) (parts-le _ _ (omega (arith, c i d u (inner d v))));
+            fewest = λ i d u v. rw (given-lower whole p d u (inner d v)) (parts-le _ _ (omega (arith, c i d u (inner d v))));
           }
-        where
-          inner : (d : ℕ) → d ≤ horizon (given whole p) → d ≤ horizon p
-          inner d v = rw (sym (given-horizon whole p)) v
 
       back : Keeps (given whole p) s → Conforms∞ p s
       back k i d u v =

@@ -1,18 +1,17 @@
--- One more tick: the counts that a conforming finite stream can go on with are those from `lo` to `hi`, and on a closed pair there is one.
--- Assumes nothing.
-use Prim.Native.Nat.{ℕ, zero, suc, _+_, _-_, _≤_, _<_, min, max}
-use mathlib.Core.Path.{_≡_, refl, sym, ap, _∙_, subst}
+-- One more tick: the counts that a conforming finite stream can go on with are those from `lo` to `hi`, and on a closed pair there
+-- is one. Assumes nothing.
+use Prim.Native.Nat.{ℕ, zero, suc, _+_, _-_, _≤_, min, max}
+use mathlib.Core.Path.{_≡_, refl, sym, ap}
 use mathlib.Core.List.{List, [], _∷_, _++_}
 use mathlib.Core.Logic.{_↔_}
-use native.Mathlib.Nat.{le-refl}
 use native.Mathlib.Omega.{arith}
 use native.Mathlib.Decide.{decLe}
 use lib.ListN.{length, length-append, List·getD-append}
 use Rattle.laws.specs.Ranges.{fold}
-use Rattle.laws.proofs.Best.{min-best, max-best, fold-first, fold-each, fold-both}
+use Rattle.laws.proofs.Best.{min-best, max-best, fold-each, fold-both}
 use Rattle.curves.specs.Streams.{sum, countsOf}
 use Rattle.curves.specs.Pairs.{Pair, horizon, figure, ceiling, least}
-use Rattle.curves.specs.Conformance.{Inside, Conforms, ConformsUpTo}
+use Rattle.curves.specs.Conformance.{Inside, Conforms}
 use Rattle.curves.proofs.Sums.{split-at, local, sum-last}
 use Rattle.curves.proofs.Closed.{Closed}
 
@@ -71,11 +70,11 @@ module _ (p : Pair) (C : Closed p) (xs : List ℕ) (c : Conforms p xs) where
   within i zero v w = omega arith
   within i (suc d) v w = let h : Inside p (suc d) (sum (countsOf xs) i (suc d)) = c i (suc d) (omega arith) v w in omega arith
 
-  -- The last a + b ticks are a window of a ticks and the last b.
-  last-split : (a b : ℕ) → a + b ≤ length xs → last xs (a + b) ≡ sum (countsOf xs) (length xs - (a + b)) a + last xs b
-  last-split a b h =
-      let e : length xs - (a + b) + a ≡ length xs - b = omega arith in
-      omega (arith, split-at (countsOf xs) (length xs - (a + b)) a b (a + b) refl, ap (λ i. sum (countsOf xs) i b) e)
+  -- The last d = a + b ticks are a window of a ticks and the last b.
+  last-split : (a b d : ℕ) → a + b ≡ d → d ≤ length xs → last xs d ≡ sum (countsOf xs) (length xs - d) a + last xs b
+  last-split a b d e h =
+      let e′ : length xs - d + a ≡ length xs - b = omega arith in
+      omega (arith, split-at (countsOf xs) (length xs - d) a b d e, ap (λ i. sum (countsOf xs) i b) e′)
 
   pairwise : (d e : ℕ) → 1 ≤ d → d ≤ judged p xs → 1 ≤ e → e ≤ judged p xs → least p d + last xs (e - 1) ≤ ceiling p e + last xs (d - 1)
   pairwise d e u v u′ v′ = elim (decLe e d) [ yes h ↦ longer h | no h ↦ shorter (omega arith) ]
@@ -84,32 +83,35 @@ module _ (p : Pair) (C : Closed p) (xs : List ℕ) (c : Conforms p xs) where
       longer h =
           let t : ℕ = d - e in
           let k : t + e ≡ d = omega arith in
-          let k′ : t + (e - 1) ≡ d - 1 = omega arith in
           omega (
             arith,
             C .lower-minus t e (omega arith),
             ap (least p) k,
             within (length xs - (d - 1)) t (omega arith) (omega arith),
-            subst (λ (m : ℕ). last xs m ≡ sum (countsOf xs) (length xs - m) t + last xs (e - 1)) k′ (last-split t (e - 1) (omega arith)),
+            last-split t (e - 1) (d - 1) (omega arith) (omega arith),
           )
 
       shorter : d ≤ e → least p d + last xs (e - 1) ≤ ceiling p e + last xs (d - 1)
       shorter h =
           let t : ℕ = e - d in
           let k : t + d ≡ e = omega arith in
-          let k′ : t + (d - 1) ≡ e - 1 = omega arith in
           omega (
             arith,
             C .upper-minus t d (omega arith),
             ap (ceiling p) k,
             within (length xs - (e - 1)) t (omega arith) (omega arith),
-            subst (λ (m : ℕ). last xs m ≡ sum (countsOf xs) (length xs - m) t + last xs (d - 1)) k′ (last-split t (d - 1) (omega arith)),
+            last-split t (d - 1) (e - 1) (omega arith) (omega arith),
           )
 
   room : (d : ℕ) → 1 ≤ d → d ≤ judged p xs → last xs (d - 1) ≤ ceiling p d
   room d u v =
       let k : d - 1 + 1 ≡ d = omega arith in
-      omega (arith, within (length xs - (d - 1)) (d - 1) (omega arith) (omega arith), C .upper-minus (d - 1) 1 (omega arith), ap (ceiling p) k)
+      omega (
+        arith,
+        within (length xs - (d - 1)) (d - 1) (omega arith) (omega arith),
+        C .upper-minus (d - 1) 1 (omega arith),
+        ap (ceiling p) k,
+      )
 
   pub keeps-range : (x : ℕ) → 1 ≤ horizon p → Keeps p xs x ↔ ((lo p xs ≤ x) × (x ≤ hi p xs))
   keeps-range x h = (there, back)
@@ -117,7 +119,9 @@ module _ (p : Pair) (C : Closed p) (xs : List ℕ) (c : Conforms p xs) where
       there : Keeps p xs x → (lo p xs ≤ x) × (x ≤ hi p xs)
       there k = (
         fold-both (λ a b. b ≤ a) max max-best 0 _ x (judged p xs) (omega arith) (λ d u v. omega (arith, k d u v)),
-        fold-both _≤_ min min-best (ceiling p 1) _ x (judged p xs) (first (k 1 (omega arith) (omega arith))) (λ d u v. omega (arith, k d u v)),
+        fold-both _≤_ min min-best (ceiling p 1) _ x (judged p xs)
+            (first (k 1 (omega arith) (omega arith)))
+            (λ d u v. omega (arith, k d u v)),
       )
         where
           first : Inside p 1 (last xs 0 + x) → x ≤ ceiling p 1

@@ -1,8 +1,8 @@
 -- Window sums: a window in two parts, and streams that agree on a window. Assumes nothing.
-use Prim.Native.Nat.{ℕ, zero, suc, _+_, _-_, _≤_, _<_}
-use mathlib.Core.Path.{_≡_, refl, sym, ap, _∙_}
+use Prim.Native.Nat.{ℕ, zero, suc, _+_, _≤_, _<_}
+use mathlib.Core.Path.{_≡_, refl, sym, ap}
 use mathlib.Core.List.{List, [], _∷_, _++_}
-use native.Mathlib.Nat.{add-zero, add-suc, add-assoc, le-step}
+use native.Mathlib.Nat.{add-zero, add-suc}
 use native.Mathlib.Omega.{arith}
 use lib.ListN.{length, getD, List·getD-append}
 use Rattle.curves.specs.Streams.{sum, countsOf}
@@ -10,7 +10,7 @@ use Rattle.curves.specs.Streams.{sum, countsOf}
 -- A window of a + b ticks is its first a and its last b.
 pub split : (s : ℕ → ℕ) (i a b : ℕ) → sum s i (a + b) ≡ sum s i a + sum s (i + a) b
 unfolding sum
-split s i a zero = rw (add-zero, add-zero)
+split s i a zero = rw (add-zero a, add-zero (sum s i a))
 split s i a (suc b) =
     let e : i + (a + b) ≡ i + a + b = omega arith in
     rw add-suc (omega (arith, split s i a b, ap s e))
@@ -27,7 +27,8 @@ local s t i (suc d) h =
     omega (arith, local s t i d (λ k p q. h k p (omega arith)), h (i + d) (omega arith) (omega arith))
 
 -- A finite stream with one more count: the window of d ticks that ends there has that count and the d − 1 before it.
-pub sum-last : (xs : List ℕ) (x i d : ℕ) → i + suc d ≡ suc (length xs) → sum (countsOf (xs ++ (x ∷ []))) i (suc d) ≡ sum (countsOf xs) i d + x
+pub sum-last : (xs : List ℕ) (x i d : ℕ) → i + suc d ≡ suc (length xs)
+    → sum (countsOf (xs ++ (x ∷ []))) i (suc d) ≡ sum (countsOf xs) i d + x
 unfolding sum
 sum-last xs x i d e =
     let n : i + d ≡ length xs = omega arith in

@@ -1,15 +1,15 @@
 -- `fold`: a step more, the best of a range in any order, and what carries a fold from one kind of number to another.
 -- Assumes nothing.
-use Prim.Native.Nat.{ℕ, zero, suc, _+_, _-_, _≤_, _<_, min, max}
+use Prim.Native.Nat.{ℕ, zero, suc, _+_, _-_, _≤_, min, max}
 use mathlib.Core.Path.{_≡_, refl, ap, _∙_, subst}
-use mathlib.Core.Logic.{_⊎_, inl, inr, ⊎-elim}
+use mathlib.Core.Logic.{⊎-elim}
 use native.Mathlib.Nat.{le-refl, le-trans, le-step, le-suc-iff, min-le-left, min-le-right, le-min, le-max-left, le-max-right, max-le}
-use native.Mathlib.Numerals.{add-one}
 use native.Mathlib.Omega.{arith}
 use Rattle.laws.specs.Ranges.{fold}
 
 -- A turn of a loop that counts k up from 1 and has taken f 1 to f (k − 1).
-pub fold-turn {ℓ} : {A : Type ℓ} (op : A → A → A) (x : A) (f : ℕ → A) (k : ℕ) → 1 ≤ k → op (fold op x f (k - 1)) (f k) ≡ fold op x f (k + 1 - 1)
+pub fold-turn {ℓ} : {A : Type ℓ} (op : A → A → A) (x : A) (f : ℕ → A) (k : ℕ) → 1 ≤ k
+    → op (fold op x f (k - 1)) (f k) ≡ fold op x f (k + 1 - 1)
 unfolding fold
 fold-turn op x f zero h = absurd (omega arith)
 fold-turn op x f (suc k) h =
@@ -18,20 +18,25 @@ fold-turn op x f (suc k) h =
     rw (e, e′)
 
 -- Folds over functions that agree on the range agree.
-pub fold-ext {ℓ} : {A : Type ℓ} (op : A → A → A) (x : A) (f g : ℕ → A) (n : ℕ) → ((k : ℕ) → 1 ≤ k → k ≤ n → f k ≡ g k) → fold op x f n ≡ fold op x g n
+pub fold-ext {ℓ} : {A : Type ℓ} (op : A → A → A) (x : A) (f g : ℕ → A) (n : ℕ)
+    → ((k : ℕ) → 1 ≤ k → k ≤ n → f k ≡ g k) → fold op x f n ≡ fold op x g n
 unfolding fold
 fold-ext op x f g zero h = refl
 fold-ext op x f g (suc n) h =
     rw (fold-ext op x f g n (λ k p q. h k p (le-step q)), h (suc n) (omega arith) (le-refl (suc n)))
 
 -- A fold is carried over by a map under which each step is carried over.
-pub fold-map {ℓ} : {A B : Type ℓ} (m : A → B) (op : A → A → A) (op′ : B → B → B) (x : A) (f : ℕ → A) (f′ : ℕ → B) (n : ℕ) → ((k : ℕ) → 1 ≤ k → k ≤ n → (y : A) → op′ (m y) (f′ k) ≡ m (op y (f k))) → fold op′ (m x) f′ n ≡ m (fold op x f n)
+pub fold-map {ℓ} : {A B : Type ℓ} (m : A → B) (op : A → A → A) (op′ : B → B → B) (x : A) (f : ℕ → A) (f′ : ℕ → B) (n : ℕ)
+    → ((k : ℕ) → 1 ≤ k → k ≤ n → (y : A) → op′ (m y) (f′ k) ≡ m (op y (f k)))
+    → fold op′ (m x) f′ n ≡ m (fold op x f n)
 unfolding fold
 fold-map m op op′ x f f′ zero h = refl
 fold-map m op op′ x f f′ (suc n) h =
-    ap (λ y. op′ y (f′ (suc n))) (fold-map m op op′ x f f′ n (λ k p q. h k p (le-step q))) ∙ h (suc n) (omega arith) (le-refl (suc n)) (fold op x f n)
+    ap (λ y. op′ y (f′ (suc n))) (fold-map m op op′ x f f′ n (λ k p q. h k p (le-step q)))
+    ∙ h (suc n) (omega arith) (le-refl (suc n)) (fold op x f n)
 
--- What makes `best` the better of two in the order R, where R x y says that x is at least as good: at least as good as both, and no better than that.
+-- `best` is the better of two in the order R, where R x y says that x is at least as good: at least as good as both, and no better
+-- than that.
 pub record IsBest {ℓ} {A : Type ℓ} (R : A → A → Type 0) (best : A → A → A) : Type ℓ where
   pub left : (x y : A) → R (best x y) x
   pub right : (x y : A) → R (best x y) y
@@ -40,11 +45,26 @@ pub record IsBest {ℓ} {A : Type ℓ} (R : A → A → Type 0) (best : A → A 
   pub same : (x : A) → R x x
 
 pub min-best : IsBest _≤_ min
-min-best = record { left = min-le-left; right = min-le-right; both = λ z x y p q. le-min p q; chain = λ x y z p q. le-trans p q; same = le-refl }
+min-best =
+    record {
+      left = min-le-left;
+      right = min-le-right;
+      both = λ z x y p q. le-min p q;
+      chain = λ x y z p q. le-trans p q;
+      same = le-refl;
+    }
 
 pub max-best : IsBest (λ x y. y ≤ x) max
-max-best = record { left = le-max-left; right = le-max-right; both = λ z x y p q. max-le p q; chain = λ x y z p q. le-trans q p; same = le-refl }
+max-best =
+    record {
+      left = le-max-left;
+      right = le-max-right;
+      both = λ z x y p q. max-le p q;
+      chain = λ x y z p q. le-trans q p;
+      same = le-refl;
+    }
 
+-- The best of x and f 1 to f n: as good as each, and no better than what is as good as each.
 module _ {ℓ} {A : Type ℓ} (R : A → A → Type 0) (best : A → A → A) (B : IsBest R best) (x : A) (f : ℕ → A) where
   pub fold-first : (n : ℕ) → R (fold best x f n) x
   unfolding fold
@@ -73,7 +93,8 @@ module _ (f g : ℕ → ℕ) where
   sum-le zero h = le-refl 0
   sum-le (suc n) h = omega (arith, sum-le n (λ k p q. h k p (le-step q)), h (suc n) (omega arith) (le-refl (suc n)))
 
-  pub sum-tight : (n : ℕ) → ((k : ℕ) → 1 ≤ k → k ≤ n → f k ≤ g k) → fold _+_ 0 g n ≤ fold _+_ 0 f n → (k : ℕ) → 1 ≤ k → k ≤ n → f k ≡ g k
+  pub sum-tight : (n : ℕ) → ((k : ℕ) → 1 ≤ k → k ≤ n → f k ≤ g k) → fold _+_ 0 g n ≤ fold _+_ 0 f n
+      → (k : ℕ) → 1 ≤ k → k ≤ n → f k ≡ g k
   unfolding fold
   sum-tight zero h t k p q = absurd (omega arith)
   sum-tight (suc n) h t k p q =

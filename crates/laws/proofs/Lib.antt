@@ -1,4 +1,4 @@
--- Laws over plain variables, each stated once: what the specifications, the theory and the loops' proofs cite.
+-- Laws over plain variables, each stated once: what the specifications, the theory and the loops' proofs cite. Assumes nothing.
 pub mod Best
 pub mod Table
 pub mod Search

@@ -1,13 +1,13 @@
 -- `table`: its length and entries, tables that agree, and the fill of a list from the front, one store a turn.
 -- Assumes nothing.
-use Prim.Native.Nat.{ℕ, zero, suc, _+_, _-_, _≤_, _<_}
-use mathlib.Core.Path.{_≡_, refl, sym, ap, _∙_, subst}
+use Prim.Native.Nat.{ℕ, zero, suc, _+_, _≤_, _<_}
+use mathlib.Core.Path.{_≡_, refl, ap, _∙_}
 use mathlib.Core.List.{List, [], _∷_, _++_, append-assoc, append-nil}
-use mathlib.Core.Logic.{_⊎_, inl, inr, ⊎-elim}
+use mathlib.Core.Logic.{⊎-elim}
 use native.Mathlib.Nat.{le-refl, le-step, eq-or-lt-of-le, le-of-suc-le-suc}
 use native.Mathlib.Numerals.{add-one}
 use native.Mathlib.Omega.{arith}
-use lib.ListN.{length, getD, set, drop, take, length-append, length-drop, drop-of-length-le, List·getD-append}
+use lib.ListN.{length, getD, set, drop, length-append, drop-of-length-le, List·getD-append}
 use lib.Seq.{getD-at, set-at, drop-cons, ext-getD}
 use Rattle.laws.specs.Ranges.{table}
 
@@ -22,7 +22,9 @@ getD-table f zero i z h = absurd (omega arith)
 getD-table f (suc n) i z h =
     ⊎-elim
     (λ e. let e′ : i ≡ n = omega arith in rw e′ (getD-at (table f n) (f (suc n)) [] z n (length-table f n)))
-    (λ l. List·getD-append (table f n) (f (suc n) ∷ []) z i (rw length-table (le-of-suc-le-suc l)) ∙ getD-table f n i z (le-of-suc-le-suc l))
+    (λ l.
+    let l′ : i < n = le-of-suc-le-suc l in
+    List·getD-append (table f n) (f (suc n) ∷ []) z i (rw length-table l′) ∙ getD-table f n i z l′)
     (eq-or-lt-of-le h)
 
 pub table-ext {ℓ} : {A : Type ℓ} (f g : ℕ → A) (n : ℕ) → ((d : ℕ) → 1 ≤ d → d ≤ n → f d ≡ g d) → table f n ≡ table g n
@@ -31,22 +33,23 @@ table-ext f g zero h = refl
 table-ext f g (suc n) h =
     rw (table-ext f g n (λ d p q. h d p (le-step q)), h (suc n) (omega arith) (le-refl (suc n)))
 
+-- The same, where the lengths are known only to be equal.
 pub table-same {ℓ} : {A : Type ℓ} (f g : ℕ → A) (n m : ℕ) → n ≡ m → ((d : ℕ) → 1 ≤ d → d ≤ n → f d ≡ g d) → table f n ≡ table g m
 table-same f g n m e h = table-ext f g n h ∙ ap (table g) e
 
 -- A list is the table of its own entries.
-pub table-self {ℓ} : {A : Type ℓ} (f : ℕ → A) (xs : List A) (z : A) → ((i : ℕ) → i < length xs → f (suc i) ≡ getD xs i z) → table f (length xs) ≡ xs
+pub table-self {ℓ} : {A : Type ℓ} (f : ℕ → A) (xs : List A) (z : A)
+    → ((i : ℕ) → i < length xs → f (suc i) ≡ getD xs i z) → table f (length xs) ≡ xs
 table-self f xs z h =
-    ext-getD z (table f (length xs)) xs (length-table f (length xs)) (λ i l. let l′ : i < length xs = (rw length-table at l) in getD-table f (length xs) i z l′ ∙ h i l′)
+    ext-getD z (table f (length xs)) xs (length-table f (length xs))
+    (λ i l. let l′ : i < length xs = (rw length-table at l) in getD-table f (length xs) i z l′ ∙ h i l′)
 
 -- A turn of a loop that has stored f 1 to f k into out and now stores f (k + 1).
-pub fill-turn : (f : ℕ → ℕ) (out : List ℕ) (k : ℕ) → k < length out → set (table f k ++ drop k out) k (f (k + 1)) ≡ table f (k + 1) ++ drop (k + 1) out
+pub fill-turn : (f : ℕ → ℕ) (out : List ℕ) (k : ℕ) → k < length out
+    → set (table f k ++ drop k out) k (f (k + 1)) ≡ table f (k + 1) ++ drop (k + 1) out
 unfolding table
 fill-turn f out k h =
     rw (add-one k, drop-cons out k 0 h, set-at (table f k) (getD out k 0) (drop (suc k) out) (f (suc k)) k (length-table f k), append-assoc)
-
-pub length-fill : (f : ℕ → ℕ) (out : List ℕ) (k : ℕ) → k ≤ length out → length (table f k ++ drop k out) ≡ length out
-length-fill f out k h = simp (length-append, length-table, length-drop) (omega arith)
 
 -- The whole list is stored.
 pub fill-done : (f : ℕ → ℕ) (out : List ℕ) (k : ℕ) → length out ≤ k → table f k ++ drop k out ≡ table f k

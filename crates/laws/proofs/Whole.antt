@@ -1,15 +1,14 @@
--- Whole numbers for `omega`, which reads natural numbers: z is `up z` less `down z`, an order of whole numbers is an order of sums of these,
--- and a sum or a difference has its parts up to what both gain. Assumes nothing.
+-- Whole numbers for `omega`, which reads natural numbers: z is `up z` less `down z`, an order of whole numbers is an order of sums of
+-- these, and a sum or a difference has its parts up to what both gain. Assumes nothing.
 use Prim.Native.Nat.{ℕ, zero, suc, _+_, _-_, _≤_, _<_, min, max}
 use mathlib.Core.Path.{_≡_, refl, sym, ap, _∙_, subst}
 use mathlib.Core.Bool.{Bool, true, false, cond}
-use native.Mathlib.Nat.{min-eq-left, min-eq-right, max-eq-left, max-eq-right, le-of-lt}
 use native.Mathlib.Omega.{arith}
-use lib.Dec.{T, leb, ltb, leb→le, le→leb, ltb→lt, lt→ltb}
+use lib.Dec.{T, ltb, leb→le, le→leb, ltb→lt, lt→ltb}
 use lib.IntN.{ℤ, pos, negsuc, negℤ, subℕ, _+ℤ_, _-ℤ_}
-use lib.Signed.{_≤ℤ_, _<ℤ_, leZ, ltZ, ≤ℤ-refl}
+use lib.Signed.{_≤ℤ_, _<ℤ_, leZ, ≤ℤ-refl}
 use native.Mathlib.Decide.{decLe}
-use borrow.Author.Tests.{lt-ltb, le-ltb, ltb-true, ltb-false, leb-true, leb-false}
+use borrow.Author.Tests.{lt-ltb, le-ltb, ltb-true, ltb-false, leb-false}
 use Rattle.laws.proofs.Best.{IsBest}
 
 abbrev pub up : ℤ → ℕ
@@ -47,7 +46,8 @@ parts-lt (negsuc a) (negsuc b) h = record { lt = lt→ltb b a (omega arith) }
 sub-parts : (a b : ℕ) → up (subℕ a b) + b ≡ a + down (subℕ a b)
 sub-parts a b = go (ltb a b) refl
   where
-    go : (t : Bool) → ltb a b ≡ t → up (cond t (negsuc (b - suc a)) (pos (a - b))) + b ≡ a + down (cond t (negsuc (b - suc a)) (pos (a - b)))
+    go : (t : Bool) → ltb a b ≡ t
+        → up (cond t (negsuc (b - suc a)) (pos (a - b))) + b ≡ a + down (cond t (negsuc (b - suc a)) (pos (a - b)))
     go true e = omega (arith, ltb-true a b e)
     go false e = omega (arith, ltb-false a b e)
 
@@ -75,36 +75,30 @@ not-le (pos a) (negsuc b) e = record { le = tt }
 not-le (negsuc a) (pos b) e = let z : _≡_ {A = ℕ} 0 1 = cc in absurd (omega arith)
 not-le (negsuc a) (negsuc b) e = parts-le (negsuc b) (negsuc a) (omega (arith, leb-false b a e))
 
-choice : (x y : ℤ) (P : ℤ → Type 0) → (x ≤ℤ y → P x) → (y ≤ℤ x → P y) → P (cond (leZ x y) x y)
-choice x y P f g = go (leZ x y) refl
+-- What the comparison of x and y tells holds, if it holds either way.
+compared : (x y : ℤ) (P : Bool → Type 0) → (x ≤ℤ y → P true) → (y ≤ℤ x → P false) → P (leZ x y)
+compared x y P f g = go (leZ x y) refl
   where
-    go : (t : Bool) → leZ x y ≡ t → P (cond t x y)
+    go : (t : Bool) → leZ x y ≡ t → P t
     go true e = f (record { le = subst T (sym e) tt })
     go false e = g (not-le x y e)
 
 pub smaller-best : IsBest _≤ℤ_ (λ x y. cond (leZ x y) x y)
 smaller-best =
     record {
-      left = λ x y. choice x y (λ z. z ≤ℤ x) (λ h. ≤ℤ-refl x) (λ h. h);
-      right = λ x y. choice x y (λ z. z ≤ℤ y) (λ h. h) (λ h. ≤ℤ-refl y);
-      both = λ z x y p q. choice x y (λ w. z ≤ℤ w) (λ h. p) (λ h. q);
+      left = λ x y. compared x y (λ t. cond t x y ≤ℤ x) (λ h. ≤ℤ-refl x) (λ h. h);
+      right = λ x y. compared x y (λ t. cond t x y ≤ℤ y) (λ h. h) (λ h. ≤ℤ-refl y);
+      both = λ z x y p q. compared x y (λ t. z ≤ℤ cond t x y) (λ h. p) (λ h. q);
       chain = ≤ℤ-chain;
       same = ≤ℤ-refl;
     }
 
-choice′ : (x y : ℤ) (P : ℤ → Type 0) → (x ≤ℤ y → P y) → (y ≤ℤ x → P x) → P (cond (leZ x y) y x)
-choice′ x y P f g = go (leZ x y) refl
-  where
-    go : (t : Bool) → leZ x y ≡ t → P (cond t y x)
-    go true e = f (record { le = subst T (sym e) tt })
-    go false e = g (not-le x y e)
-
 pub larger-best : IsBest (λ x y. y ≤ℤ x) (λ x y. cond (leZ x y) y x)
 larger-best =
     record {
-      left = λ x y. choice′ x y (λ z. x ≤ℤ z) (λ h. h) (λ h. ≤ℤ-refl x);
-      right = λ x y. choice′ x y (λ z. y ≤ℤ z) (λ h. ≤ℤ-refl y) (λ h. h);
-      both = λ z x y p q. choice′ x y (λ w. w ≤ℤ z) (λ h. q) (λ h. p);
+      left = λ x y. compared x y (λ t. x ≤ℤ cond t y x) (λ h. h) (λ h. ≤ℤ-refl x);
+      right = λ x y. compared x y (λ t. y ≤ℤ cond t y x) (λ h. ≤ℤ-refl y) (λ h. h);
+      both = λ z x y p q. compared x y (λ t. cond t y x ≤ℤ z) (λ h. q) (λ h. p);
       chain = λ x y z p q. ≤ℤ-chain z y x q p;
       same = ≤ℤ-refl;
     }
@@ -118,18 +112,16 @@ minus-mono x y x′ y′ p q = parts-le _ _ (omega (arith, le-parts x y p, le-pa
 
 -- ---- natural numbers among them
 pub smaller-pos : (y x : ℕ) → cond (leZ (pos y) (pos x)) (pos y) (pos x) ≡ pos (min y x)
-smaller-pos y x = go (leb y x) refl
-  where
-    go : (t : Bool) → leb y x ≡ t → cond t (pos y) (pos x) ≡ pos (min y x)
-    go true e = ap pos (sym (min-eq-left (leb-true y x e)))
-    go false e = ap pos (sym (min-eq-right (le-of-lt (leb-false y x e))))
+smaller-pos y x =
+    compared (pos y) (pos x) (λ t. cond t (pos y) (pos x) ≡ pos (min y x))
+    (λ h. ap pos (omega (arith, le-parts _ _ h)))
+    (λ h. ap pos (omega (arith, le-parts _ _ h)))
 
 pub larger-pos : (y x : ℕ) → cond (leZ (pos y) (pos x)) (pos x) (pos y) ≡ pos (max y x)
-larger-pos y x = go (leb y x) refl
-  where
-    go : (t : Bool) → leb y x ≡ t → cond t (pos x) (pos y) ≡ pos (max y x)
-    go true e = ap pos (sym (max-eq-right (leb-true y x e)))
-    go false e = ap pos (sym (max-eq-left (le-of-lt (leb-false y x e))))
+larger-pos y x =
+    compared (pos y) (pos x) (λ t. cond t (pos x) (pos y) ≡ pos (max y x))
+    (λ h. ap pos (omega (arith, le-parts _ _ h)))
+    (λ h. ap pos (omega (arith, le-parts _ _ h)))
 
 minus-is : (a b : ℕ) → (pos a -ℤ pos b) ≡ subℕ a b
 minus-is a zero = rw (le-ltb a 0 (omega arith)) (ap pos (omega arith))
@@ -139,7 +131,8 @@ pub minus-pos : (a b : ℕ) → b ≤ a → (pos a -ℤ pos b) ≡ pos (a - b)
 minus-pos a b h = minus-is a b ∙ rw (le-ltb a b h)
 
 pub larger-minus : (y a b : ℕ) → cond (leZ (pos y) (pos a -ℤ pos b)) (pos a -ℤ pos b) (pos y) ≡ pos (max y (a - b))
-larger-minus y a b = elim (decLe b a) [ yes h ↦ rw (minus-pos a b h) (larger-pos y (a - b)) | no h ↦ negative (omega arith) ]
-  where
-    negative : a < b → cond (leZ (pos y) (pos a -ℤ pos b)) (pos a -ℤ pos b) (pos y) ≡ pos (max y (a - b))
-    negative h = rw (minus-is a b, lt-ltb a b h) (ap pos (omega arith))
+larger-minus y a b =
+    elim (decLe b a) [
+      | yes h ↦ rw (minus-pos a b h) (larger-pos y (a - b))
+      | no h ↦ rw (minus-is a b, lt-ltb a b (omega arith)) (ap pos (omega arith))
+    ]
