@@ -8,7 +8,7 @@ use lib.ListN.{length, take, drop, take-append-drop}
 use Rattle.laws.specs.Ranges.{table}
 use Rattle.curves.specs.Pairs.{Pair, horizon, figure, pairOf}
 use Rattle.curves.specs.Rounds.{whole, Arrives}
-use Rattle.curves.proofs.Closure.{cut-off-arrives, cut-off-crosses}
+use Rattle.curves.proofs.Agreement.{cut-off-arrives, cut-off-crosses}
 use Rattle.curves.proofs.Arrival.{never-both}
 use Rattle.closure.specs.declared.Closing.{Closing}
 use Rattle.closure.specs.declared.rounds.Ending.{Ending}

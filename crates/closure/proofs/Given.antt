@@ -14,10 +14,11 @@ use Rattle.curves.specs.Pairs.{Pair, horizon, ceiling, least, Equal}
 use Rattle.curves.specs.Conformance.{Conforms∞}
 use Rattle.curves.specs.Rounds.{whole, cutOff, given, Arrives}
 use Rattle.curves.specs.Theorems.{Closes}
-use Rattle.curves.proofs.Figures.{same-sym}
+use Rattle.curves.proofs.Figures.{same-sym, given-full}
 use Rattle.curves.proofs.Agreement.{given-equal}
 use Rattle.curves.proofs.Arrival.{arrives-or-crosses}
-use Rattle.curves.proofs.Closure.{arrives-equal, closure-horizon, closure-begins, crossed-has-no-stream, given-full}
+use Rattle.curves.proofs.Kept.{crossed-has-no-stream}
+use Rattle.curves.proofs.Closure.{arrives-equal, closure-horizon, closure-begins}
 use Rattle.closure.specs.Closing.{refused, closed, closing}
 use Rattle.closure.specs.Theorems.{Passes, GivesClosure, closureOf, ClosureIsArrivedAt, RefusedIffNoStream, ElseClosed}
 use Rattle.closure.proofs.Said.{refused-is, closed-is, closed-equal, fifth, gives-passes}

@@ -1,19 +1,17 @@
 -- What the loop over the rounds holds: how far they have come, and that there are fewer of them than a u32 counts.
 -- Assumes nothing.
 use Prim.Native.Nat.{ℕ, zero, suc, _+_, _-_, _*_, _≤_, _<_}
-use mathlib.Core.Path.{_≡_, refl, sym, ap, _∙_, subst}
+use mathlib.Core.Path.{_≡_, sym, ap, _∙_, subst}
 use mathlib.Core.Bool.{Bool, true, false}
 use native.Mathlib.Nat.{suc-mul}
 use native.Mathlib.Numerals.{add-one}
 use native.Mathlib.Omega.{arith}
 use borrow.Author.Count.{below-none, below-more}
 use lib.ListN.{length}
-use lib.Seq.{ext-getD}
 use Rattle.laws.specs.Ranges.{fold}
-use Rattle.laws.proofs.Table.{length-table}
 use Rattle.curves.specs.Pairs.{Pair, Same, horizon, figure, ceiling, least}
 use Rattle.curves.specs.Rounds.{cutOff, round, Crossed, Settled, after, Runs, Arrives, Crosses}
-use Rattle.curves.proofs.Figures.{given-self, round-horizon}
+use Rattle.curves.proofs.Figures.{given-self, round-horizon, round-full, full-same, same-refl}
 use Rattle.curves.proofs.Weight.{below, upper-falls, weight, weight-falls}
 use Rattle.closure.specs.Closing.{maxHorizon, figureLimit}
 use Rattle.closure.specs.Steps.{Bounded, Advanced}
@@ -23,21 +21,8 @@ use Rattle.closure.proofs.Laws.{bounded-within, figure-bounded, tells-t
 abbrev pub Even : Pair → Type 0
 Even c = length (c .lower) ≡ length (c .upper)
 
-round-even : (c : Pair) → Even (round cutOff c)
-unfolding round
-round-even c = length-table _ (horizon c) ∙ sym (length-table _ (horizon c))
-
--- Pairs whose figures are the same are one.
-same-pair : (c e : Pair) → Even c → Even e → Same 0 c e → c ≡ e
-unfolding figure
-same-pair c e u v s =
-    λ i. record {
-      upper = ext-getD 0 (c .upper) (e .upper) (s .horizons) (λ k l. s .uppers (suc k) (omega arith) l) i;
-      lower = ext-getD 0 (c .lower) (e .lower) (u ∙ s .horizons ∙ sym v) (λ k l. s .lowers (suc k) (omega arith) (omega arith)) i;
-    }
-
-pair-same : (c e : Pair) → c ≡ e → Same 0 c e
-pair-same c e h = subst (λ (x : Pair). Same 0 c x) h (record { horizons = refl; uppers = λ d p q. refl; lowers = λ d p q. refl })
+as-same : {c e : Pair} → c ≡ e → Same 0 c e
+as-same {c} {e} h = rw h (same-refl 0 e)
 
 -- No least is above its ceiling, so the leasts are bounded as the ceilings are.
 pub lower-bounded : (c : Pair) → Even c → ¬ Crossed cutOff c → Bounded (c .upper) → Bounded (c .lower)
@@ -85,7 +70,7 @@ module _ (p : Pair) (n : ℕ) (c : Pair) (h : Held p n c) where
 
   module _ (uncrossed : ¬ Crossed cutOff c) (done : Bool) (next : Pair) (a : Advanced c done next) where
     next-even : Even next
-    next-even = subst Even (sym (a .figures)) (round-even c)
+    next-even = subst Even (sym (a .figures)) (round-full cutOff c)
 
     pub arrives : done ≡ true → Arrives cutOff p n next
     arrives t =
@@ -93,12 +78,12 @@ module _ (p : Pair) (n : ℕ) (c : Pair) (h : Held p n c) where
         record {
           runs = h .runs;
           uncrossed = subst (λ (y : Pair). ¬ Crossed cutOff y) (h .figures) uncrossed;
-          settled = subst (λ (y : Pair). Settled cutOff y) (h .figures) (pair-same _ _ (sym (a .figures) ∙ e));
-          figures = pair-same _ _ (sym (h .figures) ∙ sym e ∙ sym (given-self next next-even));
+          settled = subst (λ (y : Pair). Settled cutOff y) (h .figures) (as-same (sym (a .figures) ∙ e));
+          figures = as-same (sym (h .figures) ∙ sym e ∙ sym (given-self next next-even));
         }
 
     unsettled : done ≡ false → ¬ Settled cutOff c
-    unsettled f s = tells-false (next ≡ c) done f (a .told) (a .figures ∙ same-pair (round cutOff c) c (round-even c) (h .even) s)
+    unsettled f s = tells-false (next ≡ c) done f (a .told) (a .figures ∙ full-same 0 (round cutOff c) c (round-full cutOff c) (h .even) s)
 
     pub lighter : done ≡ false → weight next < weight c
     lighter f = subst (λ (y : Pair). weight y < weight c) (sym (a .figures)) (weight-falls c uncrossed (unsettled f))

@@ -9,6 +9,7 @@ use Rattle.laws.proofs.Search.{below-suc}
 use Rattle.laws.proofs.Whole.{lt-parts, parts-lt}
 use Rattle.curves.specs.Pairs.{horizon, Same, Pair, ceiling, least, Equal}
 use Rattle.curves.specs.Rounds.{whole, cutOff, given, round, after, Crossed, Settled, Runs, Arrives, Crosses}
+use Rattle.curves.specs.Theorems.{CutOffArrives, CutOffCrosses}
 use Rattle.curves.proofs.Figures.{given-horizon, given-upper, given-lower, given-same}
 use Rattle.curves.proofs.Figures.{same-refl, same-sym, same-trans, same-crossed}
 use Rattle.curves.proofs.CutOff.{round-agrees}
@@ -118,7 +119,7 @@ module _ (p : Pair) where
         changes = λ k l s. r .changes k l (settled-iff k (ag k (omega arith)) (r .uncrossed k l) .0 s);
       }
 
-  pub crosses-agree : (n : ℕ) → Crosses whole p n ↔ Crosses cutOff p n
+  crosses-agree : (n : ℕ) → Crosses whole p n ↔ Crosses cutOff p n
   crosses-agree n = (
     (λ x.
         let r : Runs cutOff p n = runs-cut n (x .runs) in
@@ -126,7 +127,7 @@ module _ (p : Pair) where
     (λ x. record { runs = runs-whole n (x .runs); crossed = crossed-iff n (agree n (x .runs .uncrossed)) .1 (x .crossed) }),
   )
 
-  pub arrives-agree : (n : ℕ) (q : Pair) → Arrives whole p n q ↔ Arrives cutOff p n q
+  arrives-agree : (n : ℕ) (q : Pair) → Arrives whole p n q ↔ Arrives cutOff p n q
   arrives-agree n q = (there, back)
     where
       figures : Agrees n → ¬ Crossed cutOff (after cutOff n p)
@@ -156,3 +157,9 @@ module _ (p : Pair) where
             settled = settled-iff n a (x .uncrossed) .1 (x .settled);
             figures = figures a (x .uncrossed) .1 (x .figures);
           }
+
+pub cut-off-arrives : CutOffArrives
+cut-off-arrives = arrives-agree
+
+pub cut-off-crosses : CutOffCrosses
+cut-off-crosses = crosses-agree

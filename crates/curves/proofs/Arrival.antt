@@ -13,7 +13,7 @@ use Rattle.curves.specs.Rounds.{Arithmetic, cutOff, given, round, after,
 use Rattle.curves.specs.Theorems.{Closes, ArrivesOrCrosses, NeverBoth, ArrivesOnce, CrossesOnce, RoundsWithinSlack}
 use Rattle.curves.proofs.Figures.{round-horizon, same-sym, same-trans}
 use Rattle.curves.proofs.Weight.{weight, weight-falls, slack-falls}
-use Rattle.curves.proofs.Agreement.{given-equal, same-given, arrives-agree, crosses-agree}
+use Rattle.curves.proofs.Agreement.{given-equal, same-given, cut-off-arrives, cut-off-crosses}
 
 -- ---- whether a pair's figures cross, and whether a round changes one, can be told
 unfoldable pub crossed? : (c : Pair) → (¬ Crossed cutOff c) ⊎ Crossed cutOff c
@@ -75,8 +75,8 @@ ends-from p (suc k) n h r =
 pub arrives-or-crosses : ArrivesOrCrosses
 arrives-or-crosses p =
     ⊎-elim
-    (λ a. inl (a .0, a .1, arrives-agree p (a .0) (a .1) .1 (a .2)))
-    (λ x. inr (x .0, crosses-agree p (x .0) .1 (x .1)))
+    (λ a. inl (a .0, a .1, cut-off-arrives p (a .0) (a .1) .1 (a .2)))
+    (λ x. inr (x .0, cut-off-crosses p (x .0) .1 (x .1)))
     (ends-from p (suc (weight (after cutOff 0 p))) 0 (le-refl _) (runs-none cutOff p))
 
 -- ---- once
@@ -114,7 +114,7 @@ slack-left p n r h (suc k) l =
 
 pub rounds-within-slack : RoundsWithinSlack
 rounds-within-slack p q n a =
-    let b : Arrives cutOff p n q = arrives-agree p n q .0 a in
+    let b : Arrives cutOff p n q = cut-off-arrives p n q .0 a in
     omega (arith, slack-left p n (b .runs) (b .uncrossed) n (le-refl n))
 
 -- ---- whether the rounds end with a closure can be told

@@ -10,29 +10,14 @@ use Rattle.curves.specs.Streams.{sum, Begins}
 use Rattle.curves.specs.Pairs.{horizon, Pair, ceiling, least, Equal}
 use Rattle.curves.specs.Conformance.{Conforms, Conforms∞}
 use Rattle.curves.specs.Rounds.{whole, given, after, Arrives}
-use Rattle.curves.specs.Theorems.{RoundsKeepStreams, CrossedHasNoStream, CutOffArrives, CutOffCrosses}
 use Rattle.curves.specs.Theorems.{ClosureIsCausal, CausalIffOwnClosure, CausalTakesNoRound, OneMoreTick}
-pub use Rattle.curves.proofs.Figures.{given-full}
-use Rattle.curves.proofs.Figures.{same-refl, full-same, after-full, given-same, given-horizon, after-horizon}
-use Rattle.curves.proofs.Kept.{rounds-keep, crossed-none}
-use Rattle.curves.proofs.Agreement.{arrives-agree, crosses-agree}
+use Rattle.curves.proofs.Figures.{given-full, same-refl, full-same, after-full, given-same, given-horizon, after-horizon}
+use Rattle.curves.proofs.Kept.{rounds-keep-streams}
 use Rattle.curves.proofs.Arrival.{runs-none}
 use Rattle.curves.proofs.Closed.{Closed, closed}
 use Rattle.curves.proofs.Extension.{extends, start-conforms}
 use Rattle.curves.proofs.Followed.{Follows, follows-upper, follows-lower}
 use Rattle.curves.proofs.NextTick.{lo, hi, keeps-conforms, conforms-keeps, keeps-range, lo-hi}
-
-pub rounds-keep-streams : RoundsKeepStreams
-rounds-keep-streams = rounds-keep
-
-pub crossed-has-no-stream : CrossedHasNoStream
-crossed-has-no-stream = crossed-none
-
-pub cut-off-arrives : CutOffArrives
-cut-off-arrives = arrives-agree
-
-pub cut-off-crosses : CutOffCrosses
-cut-off-crosses = crosses-agree
 
 -- ---- the closure is causal
 pub closure-is-causal : ClosureIsCausal
@@ -71,7 +56,7 @@ module _ (p q : Pair) (n : ℕ) (a : Arrives whole p n q) where
 
   -- The same unbounded streams conform to both.
   pub closure-streams : (s : ℕ → ℕ) → Conforms∞ p s ↔ Conforms∞ q s
-  closure-streams = rounds-keep p q n (a .figures)
+  closure-streams = rounds-keep-streams p q n (a .figures)
 
   module _ (h : 1 ≤ horizon p) where
     h′ : 1 ≤ horizon q

@@ -1,13 +1,12 @@
 -- What the rounds of a given pair lead to, by computation: a test that passes is a proof. Assumes nothing.
 use Prim.Native.Nat.{ℕ, zero, suc}
-use mathlib.Core.Path.{_≡_}
 use mathlib.Core.Bool.{Bool, true, false, not, _&&_, _||_}
 use mathlib.Core.Logic.{_⊎_, inl, inr, ⊎-elim}
 use native.Mathlib.Decide.{ℕ-discrete}
 use lib.Dec.{T}
 use Rattle.curves.specs.Pairs.{Pair, horizon, Equal}
 use Rattle.curves.specs.Rounds.{whole, cutOff, given, round, after, Runs, Arrives, Crosses}
-use Rattle.curves.proofs.Agreement.{arrives-agree, crosses-agree}
+use Rattle.curves.proofs.Agreement.{cut-off-arrives, cut-off-crosses}
 use Rattle.curves.proofs.Arrival.{crossed?, equal?, runs-none, runs-more}
 
 -- ---- the two sides of an answer
@@ -58,7 +57,7 @@ arrives-computed p n q t =
     let (r, t₁) = both (runs? p n) _ t in
     let (u, t₂) = both (left? (crossed? (after cutOff n p))) _ t₁ in
     let (s, f) = both (left? (same? (round cutOff (after cutOff n p)) (after cutOff n p))) _ t₂ in
-    arrives-agree p n q .1
+    cut-off-arrives p n q .1
     (record {
       runs = runs p n r;
       uncrossed = left (crossed? (after cutOff n p)) u;
@@ -73,7 +72,7 @@ crosses-computed : (p : Pair) (n : ℕ) → T (crosses? p n) → Crosses whole p
 unfolding crosses?
 crosses-computed p n t =
     let (r, x) = both (runs? p n) _ t in
-    crosses-agree p n .1 (record { runs = runs p n r; crossed = right (crossed? (after cutOff n p)) x })
+    cut-off-crosses p n .1 (record { runs = runs p n r; crossed = right (crossed? (after cutOff n p)) x })
 
 -- Crossed after at most n rounds.
 unfoldable pub crosses-by? : Pair → ℕ → Bool

@@ -1,19 +1,18 @@
 -- The definitions of specs/ at small examples: each holds by computation. Assumes nothing.
-use Prim.Native.Nat.{ℕ}
 use mathlib.Core.Path.{_≡_, refl}
-use mathlib.Core.List.{List, [], _∷_}
-use lib.IntN.{ℤ, pos, negsuc}
+use mathlib.Core.List.{[], _∷_}
+use lib.IntN.{pos, negsuc}
 use Rattle.laws.specs.Ranges.{fold, table}
 use Rattle.curves.specs.Streams.{sum, countsOf}
-use Rattle.curves.specs.Pairs.{Curves, Pair, figure, ceiling, least, slack}
+use Rattle.curves.specs.Pairs.{Pair, pairOf, figure, ceiling, slack}
 use Rattle.curves.specs.Rounds.{whole, cutOff, newFigure, round, given, after}
 
 -- The pair of the published triples, and one whose first round has a negative ceiling.
 abbrev published : Pair
-published = record { upper = 3 ∷ 6 ∷ 3 ∷ 12 ∷ 9 ∷ []; lower = 0 ∷ 0 ∷ 0 ∷ 0 ∷ 5 ∷ [] }
+published = pairOf (3 ∷ 6 ∷ 3 ∷ 12 ∷ 9 ∷ []) (0 ∷ 0 ∷ 0 ∷ 0 ∷ 5 ∷ [])
 
 abbrev falling : Pair
-falling = record { upper = 9 ∷ 1 ∷ []; lower = 5 ∷ 0 ∷ [] }
+falling = pairOf (9 ∷ 1 ∷ []) (5 ∷ 0 ∷ [])
 
 window-sum : sum (countsOf (0 ∷ 2 ∷ 1 ∷ 0 ∷ 2 ∷ 0 ∷ [])) 1 4 ≡ 5
 unfolding sum
@@ -32,7 +31,7 @@ unfolding after given round newFigure fold table figure
 negative-ceiling = refl
 
 -- Cut off at 0 the same ceiling is 0; the leasts are the same, and cross with either.
-cut-off-ceiling : after cutOff 1 falling ≡ record { upper = 0 ∷ 1 ∷ []; lower = 5 ∷ 10 ∷ [] }
+cut-off-ceiling : after cutOff 1 falling ≡ pairOf (0 ∷ 1 ∷ []) (5 ∷ 10 ∷ [])
 unfolding after given round newFigure fold table figure
 cut-off-ceiling = refl
 
@@ -44,6 +43,6 @@ published-first : after whole 1 published .upper ≡ pos 3 ∷ pos 3 ∷ pos 3 �
 unfolding after given round newFigure fold table figure
 published-first = refl
 
-published-closed : after whole 4 published ≡ given whole (record { upper = 1 ∷ 2 ∷ 3 ∷ 4 ∷ 5 ∷ []; lower = 1 ∷ 2 ∷ 3 ∷ 4 ∷ 5 ∷ [] })
+published-closed : after whole 4 published ≡ given whole (pairOf (1 ∷ 2 ∷ 3 ∷ 4 ∷ 5 ∷ []) (1 ∷ 2 ∷ 3 ∷ 4 ∷ 5 ∷ []))
 unfolding after given round newFigure fold table figure
 published-closed = refl

@@ -11,7 +11,8 @@ use Rattle.laws.proofs.Whole.{le-parts, parts-le, lt-parts, smaller-best, large
 use Rattle.curves.specs.Streams.{sum}
 use Rattle.curves.specs.Pairs.{Curves, horizon, Same, Pair}
 use Rattle.curves.specs.Conformance.{Conforms∞}
-use Rattle.curves.specs.Rounds.{whole, given, round, after, newFigure, Crossed, upperAt, lowerAt}
+use Rattle.curves.specs.Rounds.{whole, given, round, after, newFigure, upperAt, lowerAt}
+use Rattle.curves.specs.Theorems.{RoundsKeepStreams, CrossedHasNoStream}
 use Rattle.curves.proofs.Sums.{split, split-at}
 use Rattle.curves.proofs.Figures.{given-horizon, given-upper, given-lower, round-horizon, round-upper, round-lower}
 use Rattle.curves.proofs.Figures.{new-old, new-best, same-sym}
@@ -102,14 +103,14 @@ module _ (s : ℕ → ℕ) where
   after-keeps zero p = given-keeps p
   after-keeps (suc n) p = Iff·trans (after-keeps n p) (round-keeps (after whole n p))
 
-pub rounds-keep : (p q : Pair) (n : ℕ) → Same (pos 0) (after whole n p) (given whole q) → (s : ℕ → ℕ) → Conforms∞ p s ↔ Conforms∞ q s
-rounds-keep p q n e s = (
+pub rounds-keep-streams : RoundsKeepStreams
+rounds-keep-streams p q n e s = (
   (λ c. given-keeps s q .1 (same-keeps s (after whole n p) (given whole q) e (after-keeps s n p .0 c))),
   (λ c. after-keeps s n p .1 (same-keeps s (given whole q) (after whole n p) (same-sym (pos 0) _ _ e) (given-keeps s q .0 c))),
 )
 
-pub crossed-none : (p : Pair) (n : ℕ) → Crossed whole (after whole n p) → (s : ℕ → ℕ) → Conforms∞ p s → ⊥
-crossed-none p n x s c =
+pub crossed-has-no-stream : CrossedHasNoStream
+crossed-has-no-stream p n x s c =
     let k : Keeps (after whole n p) s = after-keeps s n p .0 c in
     omega (
       arith,
