@@ -1,12 +1,12 @@
 -- What the private functions of this crate promise each other. `close`'s promise cites nothing of it.
-use Prim.Native.Nat.{ℕ, _+_, _-_, _≤_, _<_, min, max}
+use Prim.Native.Nat.{ℕ, _+_, _-_, _≤_, _<_}
 use mathlib.Core.Path.{_≡_}
 use mathlib.Core.Bool.{Bool, true, false}
 use mathlib.Core.List.{List}
 use lib.ListN.{length, getD}
 use Rattle.laws.specs.Ranges.{fold}
-use Rattle.curves.specs.Pairs.{Pair, figure, horizon}
-use Rattle.curves.specs.Rounds.{cutOff, newFigure, round, upperAt, lowerAt, Arrives, Crosses}
+use Rattle.curves.specs.Pairs.{Pair, figure}
+use Rattle.curves.specs.Rounds.{cutOff, round, Arrives, Crosses}
 use Rattle.closure.specs.Closing.{figureLimit}
 use Rattle.closure.specs.declared.Closing.{Closing}
 use Rattle.closure.specs.declared.Closing.the-variants.{Closed, NoClosure}
@@ -43,13 +43,6 @@ sums best own d n = fold best (figure 0 own d) (λ a. figure 0 own a + figure 0 
 -- The best of x and the figures that windows longer by 1 to n ticks give one of d ticks.
 abbrev pub differences : (ℕ → ℕ → ℕ) → ℕ → List ℕ → List ℕ → ℕ → ℕ → ℕ
 differences best x own other d n = fold best x (λ t. figure 0 own (d + t) - figure 0 other t) n
-
--- The figures that a round gives a window of d ticks.
-abbrev pub newUpper : Pair → ℕ → ℕ
-newUpper c = newFigure cutOff min (horizon c) (upperAt cutOff c) (lowerAt cutOff c)
-
-abbrev pub newLower : Pair → ℕ → ℕ
-newLower c = newFigure cutOff max (horizon c) (lowerAt cutOff c) (upperAt cutOff c)
 
 -- A round takes c to the pair next, and it is told whether they are the same.
 pub record Advanced (c : Pair) (done : Bool) (next : Pair) : Type 0 where

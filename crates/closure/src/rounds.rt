@@ -5,10 +5,10 @@ ghost use mathlib.Core.Path.{_≡_};
 ghost use Prim.Native.Nat.{_+_, _-_, _≤_, _<_, min, max};
 ghost use lib.ListN.{length};
 ghost use Rattle.curves.specs.Pairs.{figure, pairOf};
-ghost use Rattle.curves.specs.Rounds.{cutOff, round, Crossed};
+ghost use Rattle.curves.specs.Rounds.{cutOff, newUpper, newLower, round, Crossed};
 ghost use Rattle.closure.specs.Closing.{maxHorizon};
 ghost use Rattle.closure.specs.Steps.{Bounded, Tells, SameLengths};
-ghost use Rattle.closure.specs.Steps.{sums, differences, newUpper, newLower, Advanced, Ended};
+ghost use Rattle.closure.specs.Steps.{sums, differences, Advanced, Ended};
 
 // How the rounds of a pair ended: with a closure, after so many rounds that changed a figure, or with some least above its ceiling.
 pub enum Ending {
@@ -115,8 +115,8 @@ fn with_differences(upper: &[u32], lower: &[u32], d: usize, from: Figures) -> Fi
 fn new_figures(upper: &[u32], lower: &[u32], d: usize) -> Figures
     requires { ⌜ Bounded (now upper) × Bounded (now lower) ⌝ }
     requires { ⌜ (length (now lower) ≡ length (now upper)) × (1 ≤ d) × (d ≤ length (now upper)) ⌝ }
-    ensures { λ r. ⌜ r .upper ≡ newUpper (pairOf (now (upper .entry)) (now (lower .entry))) d ⌝ }
-    ensures { λ r. ⌜ r .lower ≡ newLower (pairOf (now (upper .entry)) (now (lower .entry))) d ⌝ }
+    ensures { λ r. ⌜ r .upper ≡ newUpper cutOff (pairOf (now (upper .entry)) (now (lower .entry))) d ⌝ }
+    ensures { λ r. ⌜ r .lower ≡ newLower cutOff (pairOf (now (upper .entry)) (now (lower .entry))) d ⌝ }
 {
     with_differences(upper, lower, d, with_sums(upper, lower, d))
 }

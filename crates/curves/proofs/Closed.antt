@@ -8,9 +8,9 @@ use lib.Signed.{_≤ℤ_}
 use Rattle.laws.proofs.Best.{IsBest}
 use Rattle.laws.proofs.Whole.{le-parts, minus-parts, smaller-best, larger-best}
 use Rattle.curves.specs.Pairs.{Curves, horizon, figure, Pair, ceiling, least}
-use Rattle.curves.specs.Rounds.{whole, given, newFigure, Causal, upperAt, lowerAt}
+use Rattle.curves.specs.Rounds.{whole, given, newFigure, newUpper, newLower, Causal, upperAt, lowerAt}
 use Rattle.curves.proofs.Figures.{given-horizon, given-upper, given-lower, round-horizon, round-upper, round-lower}
-use Rattle.curves.proofs.Figures.{newUpper, newLower, new-plus, new-minus}
+use Rattle.curves.proofs.Figures.{new-plus, new-minus}
 use Rattle.curves.proofs.Weight.{below}
 use Rattle.curves.proofs.Agreement.{crossed-given}
 

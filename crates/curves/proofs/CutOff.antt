@@ -12,9 +12,9 @@ use Rattle.laws.proofs.Table.{table-same}
 use Rattle.laws.proofs.Search.{every}
 use Rattle.laws.proofs.Whole.{le-parts, parts-lt, smaller-best, smaller-pos, larger-pos, minus-pos, larger-minus}
 use Rattle.curves.specs.Pairs.{Curves, horizon, Pair, ceiling, least}
-use Rattle.curves.specs.Rounds.{whole, cutOff, given, round, newFigure, Crossed, upperAt, lowerAt}
+use Rattle.curves.specs.Rounds.{whole, cutOff, given, round, newFigure, newUpper, newLower, Crossed, upperAt, lowerAt}
 use Rattle.curves.proofs.Figures.{given-horizon, given-upper, given-lower, round-horizon, round-upper, round-lower}
-use Rattle.curves.proofs.Figures.{newUpper, newLower, new-old, new-plus}
+use Rattle.curves.proofs.Figures.{new-old, new-plus}
 use Rattle.curves.proofs.Weight.{upper-falls}
 
 -- A new figure of one curve, exact and cut off, where every step of its fold agrees.

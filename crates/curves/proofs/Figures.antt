@@ -10,7 +10,7 @@ use Rattle.laws.specs.Ranges.{fold, table}
 use Rattle.laws.proofs.Best.{IsBest, fold-first, fold-each, fold-both}
 use Rattle.laws.proofs.Table.{length-table, getD-table, table-self, table-same}
 use Rattle.curves.specs.Pairs.{Curves, horizon, figure, Same, Pair, ceiling, least}
-use Rattle.curves.specs.Rounds.{Arithmetic, cutOff, newFigure, round, given, after, upperAt, lowerAt, Crossed}
+use Rattle.curves.specs.Rounds.{Arithmetic, cutOff, newFigure, newUpper, newLower, round, given, after, upperAt, lowerAt, Crossed}
 
 figure-table : {N : Type 0} (z : N) (f : ℕ → N) (n d : ℕ) → 1 ≤ d → d ≤ n → figure z (table f n) d ≡ f d
 unfolding figure
@@ -124,20 +124,13 @@ module _ (A : Arithmetic) where
             (x .above);
       }
 
-  -- A round's new ceiling and new least of a window.
-  abbrev pub newUpper : Curves (A .Number) → ℕ → A .Number
-  newUpper c = newFigure A (A .smaller) (horizon c) (upperAt A c) (lowerAt A c)
-
-  abbrev pub newLower : Curves (A .Number) → ℕ → A .Number
-  newLower c = newFigure A (A .larger) (horizon c) (lowerAt A c) (upperAt A c)
-
-  pub round-upper : (c : Curves (A .Number)) (d : ℕ) → 1 ≤ d → d ≤ horizon c → upperAt A (round A c) d ≡ newUpper c d
+  pub round-upper : (c : Curves (A .Number)) (d : ℕ) → 1 ≤ d → d ≤ horizon c → upperAt A (round A c) d ≡ newUpper A c d
   unfolding round
-  round-upper c = figure-table (A .of 0) (newUpper c) (horizon c)
+  round-upper c = figure-table (A .of 0) (newUpper A c) (horizon c)
 
-  pub round-lower : (c : Curves (A .Number)) (d : ℕ) → 1 ≤ d → d ≤ horizon c → lowerAt A (round A c) d ≡ newLower c d
+  pub round-lower : (c : Curves (A .Number)) (d : ℕ) → 1 ≤ d → d ≤ horizon c → lowerAt A (round A c) d ≡ newLower A c d
   unfolding round
-  round-lower c = figure-table (A .of 0) (newLower c) (horizon c)
+  round-lower c = figure-table (A .of 0) (newLower A c) (horizon c)
 
   -- One curve's new figure: as good as each candidate, and no better than what is as good as each.
   module _ (R : A .Number → A .Number → Type 0) (best : A .Number → A .Number → A .Number) (B : IsBest R best)

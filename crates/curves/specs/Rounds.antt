@@ -45,27 +45,29 @@ cutOff =
     }
 
 module _ (A : Arithmetic) where
-  -- The figure that a round gives a window of d ticks: the best of its old one; of those of its two parts, a and d − a ticks, added; and
-  -- of a longer window's, d + t ticks, less the other curve's for the t ticks more. The new ceiling is the smallest, over the ceilings
-  -- less leasts; the new least is the largest, over the leasts less ceilings.
-  unfoldable pub newFigure : (A .Number → A .Number → A .Number) → ℕ → (ℕ → A .Number) → (ℕ → A .Number) → ℕ → A .Number
-  newFigure best H own other d =
-      fold best (fold best (own d) (λ a. A .plus (own a) (own (d - a))) (d - 1))
-      (λ t. A .minus (own (d + t)) (other t)) (H - d)
-
   abbrev pub upperAt : Curves (A .Number) → ℕ → A .Number
   upperAt c d = figure (A .of 0) (c .upper) d
 
   abbrev pub lowerAt : Curves (A .Number) → ℕ → A .Number
   lowerAt c d = figure (A .of 0) (c .lower) d
 
+  -- The figure that a round gives one curve for a window of d ticks: the best of its old one; of those of two parts, a and d − a ticks,
+  -- added; and of a longer window's, d + t ticks, less the other curve's for the t ticks more.
+  unfoldable pub newFigure : (A .Number → A .Number → A .Number) → ℕ → (ℕ → A .Number) → (ℕ → A .Number) → ℕ → A .Number
+  newFigure best H own other d =
+      fold best (fold best (own d) (λ a. A .plus (own a) (own (d - a))) (d - 1))
+      (λ t. A .minus (own (d + t)) (other t)) (H - d)
+
+  -- The new ceilings, each the smallest, and the new leasts, each the largest.
+  abbrev pub newUpper : Curves (A .Number) → ℕ → A .Number
+  newUpper c = newFigure (A .smaller) (horizon c) (upperAt c) (lowerAt c)
+
+  abbrev pub newLower : Curves (A .Number) → ℕ → A .Number
+  newLower c = newFigure (A .larger) (horizon c) (lowerAt c) (upperAt c)
+
   -- A round: every figure anew, all from the old ones.
   unfoldable pub round : Curves (A .Number) → Curves (A .Number)
-  round c =
-      record {
-        upper = table (newFigure (A .smaller) (horizon c) (upperAt c) (lowerAt c)) (horizon c);
-        lower = table (newFigure (A .larger) (horizon c) (lowerAt c) (upperAt c)) (horizon c);
-      }
+  round c = record { upper = table (newUpper c) (horizon c); lower = table (newLower c) (horizon c) }
 
   -- Some least stands above its ceiling.
   pub record Crossed (c : Curves (A .Number)) : Type 0 where

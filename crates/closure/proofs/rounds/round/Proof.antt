@@ -4,9 +4,8 @@ use Prim.Native.Nat.{_-_, _≤_}
 use native.Mathlib.Omega.{arith}
 use borrow.Author.Needs.{needs}
 use lib.ListN.{length}
-use Rattle.curves.specs.Rounds.{round}
+use Rattle.curves.specs.Rounds.{cutOff, newUpper, newLower, round}
 use Rattle.curves.specs.Pairs.{pairOf}
-use Rattle.closure.specs.Steps.{newUpper, newLower}
 use Rattle.closure.proofs.Laws.{Filled, unfilled, stored, filled}
 use Rattle.closure.proofs.rounds.round.Statement.{statement}
 use Rattle.closure.proofs.rounds.round.Tie as tie
@@ -14,8 +13,8 @@ use Rattle.closure.proofs.rounds.round.Tie as tie
 abbrev Inv-loop : tie.InvT-loop
 Inv-loop upper lower new-upper₀ new-lower₀ i₀ new-upper new-lower i =
     (i ≤ length upper)
-    × Filled (newUpper (pairOf upper lower)) new-upper₀ new-upper i
-    × Filled (newLower (pairOf upper lower)) new-lower₀ new-lower i
+    × Filled (newUpper cutOff (pairOf upper lower)) new-upper₀ new-upper i
+    × Filled (newLower cutOff (pairOf upper lower)) new-lower₀ new-lower i
 
 abbrev μ-loop : tie.MeasureT-loop
 μ-loop upper lower new-upper₀ new-lower₀ i₀ new-upper new-lower i = length upper - i
