@@ -82,11 +82,11 @@ uncrossed us ls h x = go (x .window) (x .positive) (x .within) (x .above)
     go (suc d) p q l = omega (arith, h d q)
 
 -- A test's answer where it is known.
-pub tells-true : (P : Type 0) (b : Bool) → b ≡ true → Tells b P → P
-tells-true P b e t = subst (λ (x : Bool). Tells x P) e t
+pub either-true : (P Q : Type 0) (b : Bool) → b ≡ true → Either b P Q → P
+either-true P Q b e t = subst (λ (x : Bool). Either x P Q) e t
 
-pub tells-false : (P : Type 0) (b : Bool) → b ≡ false → Tells b P → ¬ P
-tells-false P b e t = subst (λ (x : Bool). Tells x P) e t
+pub either-false : (P Q : Type 0) (b : Bool) → b ≡ false → Either b P Q → Q
+either-false P Q b e t = subst (λ (x : Bool). Either x P Q) e t
 
 -- Two pairs with the same ceilings are the same where their leasts are.
 pub pairs-told
@@ -128,10 +128,3 @@ ready us xs e h = subst⁻¹ (λ (ys : List ℕ). (length ys ≤ maxHorizon) × 
 -- A part of an array to compute in is as long as it was asked for.
 pub part-long : (n : ℕ) (xs : List ℕ) → length xs ≡ maxHorizon → n ≤ maxHorizon → n ≡ length (take n xs)
 part-long n xs e h = sym (length-take-le n xs (omega arith))
-
--- The answer of a test that tells either of two things.
-pub either-true : (P Q : Type 0) (b : Bool) → b ≡ true → Either b P Q → P
-either-true P Q b e t = subst (λ (x : Bool). Either x P Q) e t
-
-pub either-false : (P Q : Type 0) (b : Bool) → b ≡ false → Either b P Q → Q
-either-false P Q b e t = subst (λ (x : Bool). Either x P Q) e t

@@ -15,7 +15,7 @@ use Rattle.curves.proofs.Figures.{given-self, round-horizon, round-full, full-s
 use Rattle.curves.proofs.Weight.{below, upper-falls, weight, weight-falls}
 use Rattle.closure.specs.Closing.{maxHorizon, figureLimit}
 use Rattle.closure.specs.Steps.{Bounded, Advanced}
-use Rattle.closure.proofs.Laws.{bounded-within, figure-bounded, tells-true, tells-false}
+use Rattle.closure.proofs.Laws.{bounded-within, figure-bounded, either-true, either-false}
 
 -- A pair with as many leasts as ceilings.
 abbrev pub Even : Pair → Type 0
@@ -74,7 +74,7 @@ module _ (p : Pair) (n : ℕ) (c : Pair) (h : Held p n c) where
 
     pub arrives : done ≡ true → Arrives cutOff p n next
     arrives t =
-        let e : next ≡ c = tells-true _ done t (a .told) in
+        let e : next ≡ c = either-true _ _ done t (a .told) in
         record {
           runs = h .runs;
           uncrossed = subst (λ (y : Pair). ¬ Crossed cutOff y) (h .figures) uncrossed;
@@ -83,7 +83,7 @@ module _ (p : Pair) (n : ℕ) (c : Pair) (h : Held p n c) where
         }
 
     unsettled : done ≡ false → ¬ Settled cutOff c
-    unsettled f s = tells-false (next ≡ c) done f (a .told) (a .figures ∙ full-same 0 (round cutOff c) c (round-full cutOff c) (h .even) s)
+    unsettled f s = either-false (next ≡ c) _ done f (a .told) (a .figures ∙ full-same 0 (round cutOff c) c (round-full cutOff c) (h .even) s)
 
     pub lighter : done ≡ false → weight next < weight c
     lighter f = subst (λ (y : Pair). weight y < weight c) (sym (a .figures)) (weight-falls c uncrossed (unsettled f))

@@ -7,7 +7,7 @@ use lib.ListN.{length}
 use Rattle.curves.specs.Rounds.{cutOff, Crossed}
 use Rattle.curves.proofs.Weight.{weight}
 use Rattle.curves.specs.Pairs.{pairOf}
-use Rattle.closure.proofs.Laws.{tells-true, tells-false}
+use Rattle.closure.proofs.Laws.{either-true, either-false}
 use Rattle.closure.proofs.Progress.{Held, begins, crosses, arrives, goes-on, lighter, lower-bounded, weight-limit}
 use Rattle.closure.proofs.rounds.run.Statement.{statement}
 use Rattle.closure.proofs.rounds.run.Tie as tie
@@ -30,13 +30,13 @@ loop-holds c =
 returns : tie.Need-returns Inv-loop μ-loop
 returns c =
     let head = c .before .before .before .before .loop in
-    (head .rounds, crosses _ _ _ (head .inv .0) (tells-true _ _ (c .if1 .taken) (c .before .crossed .ensures)))
+    (head .rounds, crosses _ _ _ (head .inv .0) (either-true _ _ _ (c .if1 .taken) (c .before .crossed .ensures)))
 
 advance-requires : tie.Need-advance-requires Inv-loop μ-loop
 advance-requires c κs =
     let went-on = c .before .before .before .before in
     let held = went-on .before .before .before .before .loop .inv .0 in
-    let uncrossed = tells-false _ _ (went-on .if1 .left) (went-on .before .crossed .ensures) in
+    let uncrossed = either-false _ _ _ (went-on .if1 .left) (went-on .before .crossed .ensures) in
     ((held .bounded, lower-bounded _ (held .even) uncrossed (held .bounded)), search needs)
 
 -- The turn's beginning, seen from its round, and that no least was above its ceiling there.
@@ -46,7 +46,7 @@ head a = a .before .before .before .before .before .before .before .before .befo
 uncrossed : (a : tie.After-advance Inv-loop μ-loop) → ¬ Crossed cutOff (pairOf (head a .loop .upper) (head a .loop .lower))
 uncrossed a =
     let went-on = a .before .before .before .before .before in
-    tells-false _ _ (went-on .if1 .left) (went-on .before .crossed .ensures)
+    either-false _ _ _ (went-on .if1 .left) (went-on .before .crossed .ensures)
 
 returns-2 : tie.Need-returns-2 Inv-loop μ-loop
 returns-2 c =
