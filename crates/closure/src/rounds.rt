@@ -11,7 +11,7 @@ ghost use Rattle.closure.specs.Steps.{Bounded, Tells, SameLengths};
 ghost use Rattle.closure.specs.Steps.{sums, differences, Advanced, Ended};
 
 // How the rounds of a pair ended: with a closure, after so many rounds that changed a figure, or with some least above its ceiling.
-pub enum Ending {
+pub(crate) enum Ending {
     Arrived { rounds: u32 },
     Crossed,
 }
@@ -168,7 +168,7 @@ fn same(xs: &[u32], ys: &[u32]) -> bool
 }
 
 // The figures of `from`, put into `to`.
-pub fn copy(from: &[u32], to: &mut [u32])
+pub(crate) fn copy(from: &[u32], to: &mut [u32])
     requires { ⌜ length (now to) ≡ length (now from) ⌝ }
     ensures { λ _. ⌜ now (to .exit) ≡ now (from .entry) ⌝ }
 {
@@ -210,7 +210,7 @@ fn advance(
 }
 
 // The rounds of a pair, until one changes nothing or some least is above its ceiling. The closure is then what is held.
-pub fn run(
+pub(crate) fn run(
     upper: &mut [u32],
     lower: &mut [u32],
     new_upper: &mut [u32],

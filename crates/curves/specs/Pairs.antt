@@ -27,7 +27,7 @@ pub record Same {N : Type 0} (z : N) (c e : Curves N) : Type 0 where
   pub uppers : (d : ℕ) → 1 ≤ d → d ≤ horizon c → figure z (c .upper) d ≡ figure z (e .upper) d
   pub lowers : (d : ℕ) → 1 ≤ d → d ≤ horizon c → figure z (c .lower) d ≡ figure z (e .lower) d
 
--- A pair of arrival curves, its ceilings, its leasts and its equality.
+-- A pair of arrival curves: its figures are natural numbers.
 abbrev pub Pair : Type 0
 Pair = Curves ℕ
 
@@ -35,12 +35,14 @@ Pair = Curves ℕ
 abbrev pub pairOf : List ℕ → List ℕ → Pair
 pairOf us ls = record { upper = us; lower = ls }
 
+-- The ceiling (most) and the least of a window of d ticks.
 abbrev pub ceiling : Pair → ℕ → ℕ
 ceiling p d = figure 0 (p .upper) d
 
 abbrev pub least : Pair → ℕ → ℕ
 least p d = figure 0 (p .lower) d
 
+-- Two pairs, and so two closures, are equal.
 abbrev pub Equal : Pair → Pair → Type 0
 Equal p q = Same 0 p q
 
