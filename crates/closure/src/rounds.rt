@@ -36,7 +36,7 @@ fn larger(a: u32, b: u32) -> u32
     if a < b { b } else { a }
 }
 
-// Cut off at 0. Where the exact difference is negative the round crosses with either (theorem 3), so no answer depends on the sign.
+// Cut off at 0. A negative difference is below every old least, and as a ceiling it crosses in this very round, as 0 does (theorem 3).
 fn difference(a: u32, b: u32) -> u32
     ensures { λ r. ⌜ r ≡ a - b ⌝ }
 {
