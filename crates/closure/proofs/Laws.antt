@@ -10,12 +10,13 @@ use native.Mathlib.Omega.{arith}
 use lib.ListN.{length, getD, set, take, drop, length-set, List·getD-eq-default}
 use lib.Seq.{length-take-le}
 use Rattle.laws.specs.Ranges.{fold, table}
+use Rattle.laws.specs.Tests.{Tells}
 use Rattle.laws.proofs.Best.{fold-turn}
 use Rattle.laws.proofs.Table.{fill-turn, fill-done, table-self}
 use Rattle.curves.specs.Pairs.{Pair, figure, pairOf}
 use Rattle.curves.specs.Rounds.{cutOff, newFigure, round, Crossed, Arrives, Crosses}
 use Rattle.closure.specs.Closing.{maxHorizon, figureLimit}
-use Rattle.closure.specs.Steps.{Bounded, Either, Tells, sums, differences, Advanced, Ended, Delivered, EndedWith}
+use Rattle.closure.specs.Steps.{Bounded, sums, differences, Advanced, Ended, Delivered, EndedWith}
 use Rattle.closure.specs.declared.rounds.Ending.{Ending}
 use Rattle.closure.specs.declared.rounds.Ending.the-variants.{Arrived}
 
@@ -52,22 +53,6 @@ pub table-figures : (us : List ℕ) → table (figure 0 us) (length us) ≡ us
 unfolding figure
 table-figures us = table-self (figure 0 us) us 0 (λ i h. refl)
 
--- A loop that fills a list with f 1, f 2 and so on: what it has done before its turn at i.
-pub record Filled (f : ℕ → ℕ) (out₀ out : List ℕ) (i : ℕ) : Type 0 where
-  pub whole : length out ≡ length out₀
-  pub parts : out ≡ table f i ++ drop i out₀
-
-pub unfilled : (f : ℕ → ℕ) (out : List ℕ) → Filled f out out 0
-unfolding table
-unfilled f out = record { whole = refl; parts = refl }
-
-module _ {f : ℕ → ℕ} {out₀ out : List ℕ} {i : ℕ} (t : Filled f out₀ out i) where
-  pub stored : (v : ℕ) → i < length out₀ → v ≡ f (i + 1) → Filled f out₀ (set out i v) (i + 1)
-  stored v l e = record { whole = length-set out i v ∙ t .whole; parts = rw (t .parts, e) (fill-turn f out₀ i l) }
-
-  pub filled : (n : ℕ) → i ≡ n → length out₀ ≡ n → out ≡ table f n
-  filled n e l = t .parts ∙ fill-done f out₀ i (omega arith) ∙ ap (table f) e
-
 -- A least above its ceiling, by its index, and none as far as the lists go.
 pub crossed-at : (us ls : List ℕ) (i : ℕ) → i < length us → getD us i 0 < getD ls i 0 → Crossed cutOff (pairOf us ls)
 unfolding figure
@@ -80,13 +65,6 @@ uncrossed us ls h x = go (x .window) (x .positive) (x .within) (x .above)
     go : (d : ℕ) → 1 ≤ d → d ≤ length us → figure 0 us d < figure 0 ls d → ⊥
     go zero p q l = absurd (omega arith)
     go (suc d) p q l = omega (arith, h d q)
-
--- A test's answer where it is known.
-pub either-true : (P Q : Type 0) (b : Bool) → b ≡ true → Either b P Q → P
-either-true P Q b e t = subst (λ (x : Bool). Either x P Q) e t
-
-pub either-false : (P Q : Type 0) (b : Bool) → b ≡ false → Either b P Q → Q
-either-false P Q b e t = subst (λ (x : Bool). Either x P Q) e t
 
 -- Two pairs with the same ceilings are the same where their leasts are.
 pub pairs-told

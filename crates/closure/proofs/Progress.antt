@@ -15,7 +15,8 @@ use Rattle.curves.proofs.Figures.{given-self, round-horizon, round-full, full-s
 use Rattle.curves.proofs.Weight.{below, upper-falls, weight, weight-falls}
 use Rattle.closure.specs.Closing.{maxHorizon, figureLimit}
 use Rattle.closure.specs.Steps.{Bounded, Advanced}
-use Rattle.closure.proofs.Laws.{bounded-within, figure-bounded, either-true, either-false}
+use Rattle.laws.proofs.Tests.{either-true, either-false}
+use Rattle.closure.proofs.Laws.{bounded-within, figure-bounded}
 
 -- A pair with as many leasts as ceilings.
 abbrev pub Even : Pair → Type 0

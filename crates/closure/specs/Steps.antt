@@ -1,10 +1,11 @@
 -- What the private functions of this crate promise each other. `close`'s promise cites nothing of it.
 use Prim.Native.Nat.{ℕ, _+_, _-_, _≤_, _<_}
 use mathlib.Core.Path.{_≡_}
-use mathlib.Core.Bool.{Bool, true, false}
+use mathlib.Core.Bool.{Bool}
 use mathlib.Core.List.{List}
 use lib.ListN.{length, getD}
 use Rattle.laws.specs.Ranges.{fold}
+use Rattle.laws.specs.Tests.{Tells}
 use Rattle.curves.specs.Pairs.{Pair, figure}
 use Rattle.curves.specs.Rounds.{cutOff, round, Arrives, Crosses}
 use Rattle.closure.specs.Closing.{figureLimit}
@@ -20,15 +21,6 @@ Bounded us = (i : ℕ) → getD us i 0 ≤ figureLimit
 -- Some figure is above that.
 abbrev pub Exceeds : List ℕ → Type 0
 Exceeds us = (i : ℕ) × (i < length us) × (figureLimit < getD us i 0)
-
--- A test's answer: what it tells where it is true, and what where it is false.
-abbrev pub Either : Bool → Type 0 → Type 0 → Type 0
-Either true P Q = P
-Either false P Q = Q
-
--- The same, where the one is the contrary of the other.
-abbrev pub Tells : Bool → Type 0 → Type 0
-Tells b P = Either b P (¬ P)
 
 -- The lists of a pair, and those that a round is to be put into.
 pub record SameLengths (us ls nus nls : List ℕ) : Type 0 where

@@ -6,10 +6,11 @@ use rounds::Ending;
 ghost use mathlib.Core.Path.{_≡_};
 ghost use Prim.Native.Nat.{_≤_};
 ghost use lib.ListN.{length};
+ghost use Rattle.laws.specs.Tests.{Either};
 ghost use Rattle.curves.specs.Pairs.{pairOf};
 ghost use Rattle.closure.specs.Closing.{maxHorizon, closing};
 ghost use Rattle.closure.specs.Answers.{answer};
-ghost use Rattle.closure.specs.Steps.{closingFor, Bounded, Exceeds, Either, SameLengths, Delivered, EndedWith};
+ghost use Rattle.closure.specs.Steps.{closingFor, Bounded, Exceeds, SameLengths, Delivered, EndedWith};
 
 // The longest horizon, and the largest figure of a pair.
 const MAX_HORIZON: usize = 256;

@@ -4,10 +4,11 @@
 ghost use mathlib.Core.Path.{_≡_};
 ghost use Prim.Native.Nat.{_+_, _-_, _≤_, _<_, min, max};
 ghost use lib.ListN.{length};
+ghost use Rattle.laws.specs.Tests.{Tells};
 ghost use Rattle.curves.specs.Pairs.{figure, pairOf};
 ghost use Rattle.curves.specs.Rounds.{cutOff, newUpper, newLower, round, Crossed};
 ghost use Rattle.closure.specs.Closing.{maxHorizon};
-ghost use Rattle.closure.specs.Steps.{Bounded, Tells, SameLengths, sums, differences, Advanced, Ended};
+ghost use Rattle.closure.specs.Steps.{Bounded, SameLengths, sums, differences, Advanced, Ended};
 
 // How the rounds of a pair ended: with a closure, after so many rounds that changed a figure, or with some least above its ceiling.
 pub(crate) enum Ending {

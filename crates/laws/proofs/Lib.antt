@@ -2,4 +2,5 @@
 pub mod Best
 pub mod Table
 pub mod Search
+pub mod Tests
 pub mod Whole

@@ -7,7 +7,7 @@ use mathlib.Core.Logic.{⊎-elim}
 use native.Mathlib.Nat.{le-refl, le-step, eq-or-lt-of-le, le-of-suc-le-suc}
 use native.Mathlib.Numerals.{add-one}
 use native.Mathlib.Omega.{arith}
-use lib.ListN.{length, getD, set, drop, length-append, drop-of-length-le, List·getD-append}
+use lib.ListN.{length, getD, set, drop, length-append, length-set, drop-of-length-le, List·getD-append}
 use lib.Seq.{getD-at, set-at, drop-cons, ext-getD}
 use Rattle.laws.specs.Ranges.{table}
 
@@ -54,3 +54,19 @@ fill-turn f out k h =
 -- The whole list is stored.
 pub fill-done : (f : ℕ → ℕ) (out : List ℕ) (k : ℕ) → length out ≤ k → table f k ++ drop k out ≡ table f k
 fill-done f out k h = rw (drop-of-length-le out h) (append-nil (table f k))
+
+-- A loop that fills a list with f 1, f 2 and so on: what it has done before its turn at i.
+pub record Filled (f : ℕ → ℕ) (out₀ out : List ℕ) (i : ℕ) : Type 0 where
+  pub whole : length out ≡ length out₀
+  pub parts : out ≡ table f i ++ drop i out₀
+
+pub unfilled : (f : ℕ → ℕ) (out : List ℕ) → Filled f out out 0
+unfolding table
+unfilled f out = record { whole = refl; parts = refl }
+
+module _ {f : ℕ → ℕ} {out₀ out : List ℕ} {i : ℕ} (t : Filled f out₀ out i) where
+  pub stored : (v : ℕ) → i < length out₀ → v ≡ f (i + 1) → Filled f out₀ (set out i v) (i + 1)
+  stored v l e = record { whole = length-set out i v ∙ t .whole; parts = rw (t .parts, e) (fill-turn f out₀ i l) }
+
+  pub filled : (n : ℕ) → i ≡ n → length out₀ ≡ n → out ≡ table f n
+  filled n e l = t .parts ∙ fill-done f out₀ i (omega arith) ∙ ap (table f) e

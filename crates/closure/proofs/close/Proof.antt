@@ -10,7 +10,7 @@ use lib.Seq.{length-take-le, length-front}
 use Rattle.curves.specs.Pairs.{Pair, horizon, pairOf}
 use Rattle.closure.specs.Theorems.{Passes}
 use Rattle.closure.proofs.Answered.{within, upper-exceeds, lower-exceeds, no-1, no-2, no-3, no-4, ended-is}
-use Rattle.closure.proofs.Laws.{either-true, either-false}
+use Rattle.laws.proofs.Tests.{either-true, either-false}
 use Rattle.closure.proofs.close.Statement.{statement}
 use Rattle.closure.proofs.close.Tie as tie
 

@@ -6,7 +6,8 @@ use native.Mathlib.Omega.{arith}
 use borrow.Author.Needs.{needs}
 use lib.ListN.{length}
 use Rattle.curves.specs.Pairs.{figure}
-use Rattle.closure.proofs.Laws.{figure-next, table-figures, Filled, unfilled, stored, filled}
+use Rattle.laws.proofs.Table.{Filled, unfilled, stored, filled}
+use Rattle.closure.proofs.Laws.{figure-next, table-figures}
 use Rattle.closure.proofs.rounds.copy.Statement.{statement}
 use Rattle.closure.proofs.rounds.copy.Tie as tie
 

@@ -6,7 +6,7 @@ use borrow.Author.Needs.{needs}
 use lib.ListN.{length}
 use Rattle.curves.specs.Rounds.{cutOff, newUpper, newLower, round}
 use Rattle.curves.specs.Pairs.{pairOf}
-use Rattle.closure.proofs.Laws.{Filled, unfilled, stored, filled}
+use Rattle.laws.proofs.Table.{Filled, unfilled, stored, filled}
 use Rattle.closure.proofs.rounds.round.Statement.{statement}
 use Rattle.closure.proofs.rounds.round.Tie as tie
 

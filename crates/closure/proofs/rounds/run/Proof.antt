@@ -7,7 +7,7 @@ use lib.ListN.{length}
 use Rattle.curves.specs.Rounds.{cutOff, Crossed}
 use Rattle.curves.proofs.Weight.{weight}
 use Rattle.curves.specs.Pairs.{pairOf}
-use Rattle.closure.proofs.Laws.{either-true, either-false}
+use Rattle.laws.proofs.Tests.{either-true, either-false}
 use Rattle.closure.proofs.Progress.{Held, begins, crosses, arrives, goes-on, lighter, lower-bounded, weight-limit}
 use Rattle.closure.proofs.rounds.run.Statement.{statement}
 use Rattle.closure.proofs.rounds.run.Tie as tie

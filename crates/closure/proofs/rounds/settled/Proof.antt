@@ -2,7 +2,8 @@
 -- Assumes nothing.
 use mathlib.Core.Path.{_≡_, ap}
 use borrow.Author.Needs.{needs}
-use Rattle.closure.proofs.Laws.{either-true, either-false, pairs-told}
+use Rattle.laws.proofs.Tests.{either-true, either-false}
+use Rattle.closure.proofs.Laws.{pairs-told}
 use Rattle.closure.proofs.rounds.settled.Statement.{statement}
 use Rattle.closure.proofs.rounds.settled.Tie as tie
 
