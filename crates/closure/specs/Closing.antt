@@ -2,13 +2,13 @@
 use Prim.Native.Nat.{ℕ, _≤_}
 use mathlib.Core.Path.{_≡_}
 use mathlib.Core.List.{List, [], _∷_, _++_}
-use mathlib.Core.Logic.{⊎-elim, Dec·and}
+use mathlib.Core.Logic.{Dec·and}
 use native.Mathlib.Decide.{decLe, ℕ-discrete}
 use lib.ListN.{length, drop}
 use Rattle.laws.specs.Ranges.{table}
 use Rattle.laws.proofs.Search.{every?}
 use Rattle.curves.specs.Pairs.{Pair, horizon, ceiling, least}
-use Rattle.curves.specs.Questions.{Question, ask}
+use Rattle.curves.specs.Questions.{Question, answerTo}
 use Rattle.curves.specs.Theorems.{Closes}
 use Rattle.curves.proofs.Arrival.{closes?}
 
@@ -88,7 +88,6 @@ closed n q found =
 -- Closing the pair p: the first question that is answered no gives its number, else the answer to question 5 gives the closure.
 unfoldable pub closing : Pair → Pair → Answer
 closing p found =
-    ⊎-elim
+    answerTo (questions p found)
     (λ yeses. let fifth : Closes p = yeses .1 .1 .1 .1 .0 in closed (fifth .0) (fifth .1) found)
-    (λ first-no. refused (first-no .0) found)
-    (ask (questions p found))
+    (λ n. refused n found)

@@ -1,9 +1,11 @@
--- Questions asked in order: what `ask` says is settled by the questions alone. Assumes nothing.
-use Prim.Native.Nat.{ℕ}
-use mathlib.Core.Path.{_≡_, sym, _∙_}
-use mathlib.Core.List.{List, [], _∷_}
-use mathlib.Core.Logic.{⊎-elim}
-use Rattle.curves.specs.Questions.{Question, AllYes, FirstNo}
+-- Questions asked in order: what `ask` says is settled by the questions alone, and so is the answer that they lead to.
+-- Assumes nothing.
+use Prim.Native.Nat.{ℕ, _≤_}
+use mathlib.Core.Path.{_≡_, sym, ap, _∙_, subst}
+use mathlib.Core.List.{List, [], _∷_, _++_}
+use mathlib.Core.Logic.{_↔_, _⊎_, inl, inr, ⊎-elim}
+use native.Mathlib.Omega.{arith}
+use Rattle.curves.specs.Questions.{Question, AllYes, FirstNo, ask, answerTo}
 
 pub not-both : (qs : List Question) (n : ℕ) → AllYes qs → FirstNo qs n → ⊥
 not-both [] n ys f = f
@@ -16,3 +18,76 @@ one-no (q ∷ qs) m n f g =
     (λ h. ⊎-elim (λ k. h .0 ∙ sym (k .0)) (λ k. absurd (h .1 (k .0))) g)
     (λ h. ⊎-elim (λ k. absurd (k .1 (h .0))) (λ k. one-no qs m n (h .1) (k .1)) g)
     f
+
+-- ---- questions asked after others
+pub yes-append : (qs rs : List Question) → AllYes qs → AllYes rs → AllYes (qs ++ rs)
+yes-append [] rs ys zs = zs
+yes-append (q ∷ qs) rs ys zs = (ys .0, yes-append qs rs (ys .1) zs)
+
+pub yes-parts : (qs rs : List Question) → AllYes (qs ++ rs) → AllYes qs × AllYes rs
+yes-parts [] rs ys = (tt, ys)
+yes-parts (q ∷ qs) rs ys = let (l, r) = yes-parts qs rs (ys .1) in ((ys .0, l), r)
+
+pub no-before : (qs rs : List Question) (n : ℕ) → FirstNo qs n → FirstNo (qs ++ rs) n
+no-before [] rs n f = absurd f
+no-before (q ∷ qs) rs n f = ⊎-elim inl (λ h. inr (h .0, no-before qs rs n (h .1))) f
+
+pub no-after : (qs rs : List Question) (n : ℕ) → AllYes qs → FirstNo rs n → FirstNo (qs ++ rs) n
+no-after [] rs n ys f = f
+no-after (q ∷ qs) rs n ys f = inr (ys .0, no-after qs rs n (ys .1) f)
+
+-- ---- a question's number is at least 1, so that no refusal is taken for an answer
+abbrev pub Positive : List Question → Type 0
+Positive [] = Unit {0}
+Positive (q ∷ qs) = (1 ≤ q .number) × Positive qs
+
+pub positive : (qs : List Question) → Positive qs → (n : ℕ) → FirstNo qs n → 1 ≤ n
+positive [] h n f = absurd f
+positive (q ∷ qs) h n f = ⊎-elim (λ k. omega (arith, h .0, k .0)) (λ k. positive qs (h .1) n (k .1)) f
+
+-- ---- the answer that the questions lead to
+module _ {ℓ} {A : Type ℓ} (qs : List Question) (y : AllYes qs → A) (n : ℕ → A) where
+  pub said-no : (k : ℕ) → FirstNo qs k → answerTo qs y n ≡ n k
+  said-no k f = go (ask qs)
+    where
+      go : (v : AllYes qs ⊎ ((m : ℕ) × FirstNo qs m)) → ⊎-elim y (λ r. n (r .0)) v ≡ n k
+      go (inl ys) = absurd (not-both qs k ys f)
+      go (inr r) = ap n (one-no qs (r .0) k (r .1) f)
+
+  pub said-yes : (a : A) → AllYes qs → ((ys : AllYes qs) → y ys ≡ a) → answerTo qs y n ≡ a
+  said-yes a all e = go (ask qs)
+    where
+      go : (v : AllYes qs ⊎ ((m : ℕ) × FirstNo qs m)) → ⊎-elim y (λ r. n (r .0)) v ≡ a
+      go (inl ys) = e ys
+      go (inr r) = absurd (not-both qs (r .0) all (r .1))
+
+  -- Where a refusal bears its question's number and any other answer 0, the number tells which question it was.
+  module _ (number : A → ℕ) (no-number : (k : ℕ) → number (n k) ≡ k) (yes-number : (ys : AllYes qs) → number (y ys) ≡ 0) (h : Positive qs)
+    where
+      number-yes : AllYes qs → number (answerTo qs y n) ≡ 0
+      number-yes all = go (ask qs)
+        where
+          go : (v : AllYes qs ⊎ ((m : ℕ) × FirstNo qs m)) → number (⊎-elim y (λ r. n (r .0)) v) ≡ 0
+          go (inl ys) = yes-number ys
+          go (inr r) = absurd (not-both qs (r .0) all (r .1))
+
+      number-no : (k : ℕ) → FirstNo qs k → number (answerTo qs y n) ≡ k
+      number-no k f = ap number (said-no k f) ∙ no-number k
+
+      pub no-iff : (k : ℕ) → ((1 ≤ k) × (answerTo qs y n ≡ n k)) ↔ FirstNo qs k
+      no-iff k = (there, λ f. (positive qs h k f, said-no k f))
+        where
+          there : (1 ≤ k) × (answerTo qs y n ≡ n k) → FirstNo qs k
+          there e =
+              let is : number (answerTo qs y n) ≡ k = ap number (e .1) ∙ no-number k in
+              ⊎-elim
+              (λ ys. absurd (omega (arith, e .0, is, number-yes ys)))
+              (λ r. subst (FirstNo qs) (sym (number-no (r .0) (r .1)) ∙ is) (r .1))
+              (ask qs)
+
+      pub yes-iff : (number (answerTo qs y n) ≡ 0) ↔ AllYes qs
+      yes-iff = (there, number-yes)
+        where
+          there : number (answerTo qs y n) ≡ 0 → AllYes qs
+          there e =
+              ⊎-elim (λ ys. ys) (λ r. absurd (omega (arith, positive qs h (r .0) (r .1), number-no (r .0) (r .1), e))) (ask qs)

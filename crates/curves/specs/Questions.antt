@@ -2,7 +2,7 @@
 use Prim.Native.Nat.{ℕ}
 use mathlib.Core.Path.{_≡_, refl}
 use mathlib.Core.List.{List, [], _∷_}
-use mathlib.Core.Logic.{_⊎_, inl, inr, ⊎-map}
+use mathlib.Core.Logic.{_⊎_, inl, inr, ⊎-elim, ⊎-map}
 
 -- A question: the number that a "no" gives, what is asked, and the answer, which is its own proof.
 pub record Question : Type 1 where
@@ -28,3 +28,7 @@ ask (q ∷ qs) =
       | yes y ↦ ⊎-map (λ ys. (y, ys)) (λ f. (f .0, inr (y, f .1))) (ask qs)
       | no n ↦ inr (q .number, inl (refl, n))
     ]
+
+-- What the questions lead to: y of the yeses, or else n of the number of the first no.
+abbrev pub answerTo {ℓ} : {A : Type ℓ} (qs : List Question) → (AllYes qs → A) → (ℕ → A) → A
+answerTo qs y n = ⊎-elim y (λ f. n (f .0)) (ask qs)
