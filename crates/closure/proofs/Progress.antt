@@ -84,7 +84,8 @@ module _ (p : Pair) (n : ℕ) (c : Pair) (h : Held p n c) where
         }
 
     unsettled : done ≡ false → ¬ Settled cutOff c
-    unsettled f s = either-false (next ≡ c) _ done f (a .told) (a .figures ∙ full-same 0 (round cutOff c) c (round-full cutOff c) (h .even) s)
+    unsettled f s =
+        either-false (next ≡ c) _ done f (a .told) (a .figures ∙ full-same 0 (round cutOff c) c (round-full cutOff c) (h .even) s)
 
     pub lighter : done ≡ false → weight next < weight c
     lighter f = subst (λ (y : Pair). weight y < weight c) (sym (a .figures)) (weight-falls c uncrossed (unsettled f))

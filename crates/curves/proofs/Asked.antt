@@ -36,6 +36,11 @@ pub no-after : (qs rs : List Question) (n : ℕ) → AllYes qs → FirstNo rs n 
 no-after [] rs n ys f = f
 no-after (q ∷ qs) rs n ys f = inr (ys .0, no-after qs rs n (ys .1) f)
 
+pub no-parts : (qs rs : List Question) (n : ℕ) → FirstNo (qs ++ rs) n → FirstNo qs n ⊎ (AllYes qs × FirstNo rs n)
+no-parts [] rs n f = inr (tt, f)
+no-parts (q ∷ qs) rs n f =
+    ⊎-elim (λ h. inl (inl h)) (λ h. ⊎-elim (λ g. inl (inr (h .0, g))) (λ g. inr ((h .0, g .0), g .1)) (no-parts qs rs n (h .1))) f
+
 -- ---- a question's number is at least 1, so that no refusal is taken for an answer
 abbrev pub Positive : List Question → Type 0
 Positive [] = Unit {0}

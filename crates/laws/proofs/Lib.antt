@@ -4,3 +4,4 @@ pub mod Table
 pub mod Search
 pub mod Tests
 pub mod Whole
+pub mod Writing

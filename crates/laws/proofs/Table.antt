@@ -1,15 +1,19 @@
 -- `table`: its length and entries, tables that agree, and the fill of a list from the front, one store a turn.
 -- Assumes nothing.
-use Prim.Native.Nat.{ℕ, zero, suc, _+_, _≤_, _<_}
-use mathlib.Core.Path.{_≡_, refl, ap, _∙_}
-use mathlib.Core.List.{List, [], _∷_, _++_, append-assoc, append-nil}
+use Prim.Native.Nat.{ℕ, zero, suc, _+_, _-_, _≤_, _<_}
+use mathlib.Core.Path.{_≡_, refl, sym, ap, _∙_, subst}
+use mathlib.Core.List.{List, [], _∷_, _++_, map, map-append, append-assoc, append-nil}
 use mathlib.Core.Logic.{⊎-elim}
-use native.Mathlib.Nat.{le-refl, le-step, eq-or-lt-of-le, le-of-suc-le-suc}
+use native.Mathlib.Nat.{le-refl, le-step, le-suc-iff, eq-or-lt-of-le, le-of-suc-le-suc}
 use native.Mathlib.Numerals.{add-one}
+use native.Mathlib.Decide.{ℕ-discrete}
 use native.Mathlib.Omega.{arith}
-use lib.ListN.{length, getD, set, drop, length-append, length-set, drop-of-length-le, List·getD-append}
-use lib.Seq.{getD-at, set-at, drop-cons, ext-getD}
+use lib.ListN.{length, getD, set, drop, replicate, length-append, length-set, drop-of-length-le, replicate-append-replicate}
+use lib.ListN.{List·getD-append}
+use lib.Seq.{getD-at, set-at, getD-set-same, getD-set-other, drop-cons, ext-getD}
 use Rattle.laws.specs.Ranges.{table}
+use Rattle.laws.specs.Tests.{Each}
+use Rattle.laws.proofs.Tests.{each-append, each-parts}
 
 pub length-table {ℓ} : {A : Type ℓ} (f : ℕ → A) (n : ℕ) → length (table f n) ≡ n
 unfolding table
@@ -36,6 +40,52 @@ table-ext f g (suc n) h =
 -- The same, where the lengths are known only to be equal.
 pub table-same {ℓ} : {A : Type ℓ} (f g : ℕ → A) (n m : ℕ) → n ≡ m → ((d : ℕ) → 1 ≤ d → d ≤ n → f d ≡ g d) → table f n ≡ table g m
 table-same f g n m e h = table-ext f g n h ∙ ap (table g) e
+
+-- What is made of each entry, and what holds of each.
+pub map-table {ℓ} : {A B : Type ℓ} (g : A → B) (f : ℕ → A) (n : ℕ) → map g (table f n) ≡ table (λ d. g (f d)) n
+unfolding table
+map-table g f zero = refl
+map-table g f (suc n) = map-append g (table f n) (f (suc n) ∷ []) ∙ ap (λ t. t ++ (g (f (suc n)) ∷ [])) (map-table g f n)
+
+pub each-table {ℓ} : {A : Type ℓ} (P : A → Type 0) (f : ℕ → A) (n : ℕ) → ((d : ℕ) → 1 ≤ d → d ≤ n → P (f d)) → Each P (table f n)
+unfolding table
+each-table P f zero h = tt
+each-table P f (suc n) h =
+    each-append P (table f n) (f (suc n) ∷ [])
+    (each-table P f n (λ d p q. h d p (le-step q))) (h (suc n) (omega arith) (le-refl (suc n)), tt)
+
+pub each-entry {ℓ} : {A : Type ℓ} (P : A → Type 0) (f : ℕ → A) (n : ℕ) → Each P (table f n) → (d : ℕ) → 1 ≤ d → d ≤ n → P (f d)
+unfolding table
+each-entry P f zero ps d p q = absurd (omega arith)
+each-entry P f (suc n) ps d p q =
+    let (l, r) = each-parts P (table f n) (f (suc n) ∷ []) ps in
+    ⊎-elim (λ h. each-entry P f n l d p h) (λ e. subst (λ (k : ℕ). P (f k)) (sym e) (r .0)) (le-suc-iff .0 q)
+
+-- A table with the entry of d set: the table of a function that differs there alone.
+pub table-set {ℓ} : {A : Type ℓ} (f g : ℕ → A) (n d : ℕ) (v : A) → 1 ≤ d → d ≤ n → v ≡ g d → ((k : ℕ) → ¬ (k ≡ d) → f k ≡ g k)
+    → set (table f n) (d - 1) v ≡ table g n
+table-set f g n d v p q e h =
+    ext-getD v (set (table f n) (d - 1) v) (table g n) (length-set (table f n) (d - 1) v ∙ length-table f n ∙ (rw length-table))
+    (λ i l. at-entry i (rw (length-set, length-table) at l))
+  where
+    at-entry : (i : ℕ) → i < n → getD (set (table f n) (d - 1) v) i v ≡ getD (table g n) i v
+    at-entry i l =
+        rw (getD-table g n i v l)
+        (elim (ℕ-discrete i (d - 1)) [
+          | yes k ↦
+              let s : d ≡ suc i = omega arith in
+              ap (λ j. getD (set (table f n) (d - 1) v) j v) k ∙ getD-set-same (table f n) (d - 1) v v (rw length-table (omega arith))
+              ∙ e ∙ ap g s
+          | no k ↦
+              getD-set-other (table f n) (d - 1) i v v k ∙ getD-table f n i v l ∙ h (suc i) (λ s. k (omega arith))
+        ])
+
+-- A table of one entry throughout.
+pub table-same-entry {ℓ} : {A : Type ℓ} (f : ℕ → A) (x : A) → ((d : ℕ) → f d ≡ x) → (n : ℕ) → replicate n x ≡ table f n
+unfolding table
+table-same-entry f x h zero = refl
+table-same-entry f x h (suc n) =
+    ap (λ k. replicate k x) (sym (add-one n)) ∙ sym (replicate-append-replicate n 1 x) ∙ (rw (table-same-entry f x h n, h (suc n)))
 
 -- A list is the table of its own entries.
 pub table-self {ℓ} : {A : Type ℓ} (f : ℕ → A) (xs : List A) (z : A)
@@ -70,3 +120,7 @@ module _ {f : ℕ → ℕ} {out₀ out : List ℕ} {i : ℕ} (t : Filled f out�
 
   pub filled : (n : ℕ) → i ≡ n → length out₀ ≡ n → out ≡ table f n
   filled n e l = t .parts ∙ fill-done f out₀ i (omega arith) ∙ ap (table f) e
+
+  -- The list is stored up to n, and the rest of it is as it was.
+  pub filled-front : (n : ℕ) → i ≡ n → out ≡ table f n ++ drop n out₀
+  filled-front n e = t .parts ∙ ap (λ k. table f k ++ drop k out₀) e

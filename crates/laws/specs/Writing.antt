@@ -1,0 +1,11 @@
+-- Writing into a list that is lent, from a place on.
+use Prim.Native.Nat.{ℕ, _+_}
+use mathlib.Core.Path.{_≡_}
+use mathlib.Core.List.{List}
+use lib.ListN.{length}
+use lib.Seq.{sets}
+
+-- The entries t are put into `found` from the place `at` on; `next` is the place after them.
+pub record Wrote (found : List ℕ) (at : ℕ) (t : List ℕ) (left : List ℕ) (next : ℕ) : Type 0 where
+  pub entries : left ≡ sets found at t
+  pub place : next ≡ at + length t
