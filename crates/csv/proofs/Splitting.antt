@@ -1,0 +1,141 @@
+-- Splitting: the first record of a text and the first field of a record, byte by byte, and what follows them.
+-- Assumes nothing.
+use Prim.Native.Nat.{ℕ, suc, _+_, _-_, _≤_, _<_}
+use mathlib.Core.Path.{_≡_, refl, sym, ap, _∙_}
+use mathlib.Core.Bool.{Bool, true, false, _&&_, cond}
+use mathlib.Core.List.{List, [], _∷_, _++_, append-assoc, append-nil}
+use mathlib.Core.Logic.{Dec·and}
+use native.Mathlib.Decide.{ℕ-discrete}
+use native.Mathlib.Nat.{le-refl, sub-zero}
+use native.Mathlib.Numerals.{add-one}
+use native.Mathlib.Omega.{arith}
+use borrow.Author.Tests.{eq-eqb, ne-eqb, eqb-true}
+use lib.Dec.{eqb}
+use lib.ListN.{length, getD, take, drop, drop-of-length-le}
+use lib.Seq.{take-all, take-suc, drop-cons}
+use Rattle.csv.specs.Text.{Bytes, comma, cr, lf, onFirst, records, fields}
+
+-- `first` is what stands before the first place where Stop holds.
+pub record Splits (Stop : Bytes → Type 0) (first : Bytes → Bytes) : Type 0 where
+  pub none : first [] ≡ []
+  pub stops : (s : Bytes) → Stop s → first s ≡ []
+  pub goes : (b : ℕ) (s : Bytes) → ¬ Stop (b ∷ s) → first (b ∷ s) ≡ b ∷ first s
+
+-- A search for that place that has passed n bytes: it goes on, it has found the place, there is none.
+module _ {Stop : Bytes → Type 0} {first : Bytes → Bytes} (splits : Splits Stop first) (s : Bytes) (n : ℕ)
+    (passed : first s ≡ take n s ++ first (drop n s))
+  where
+    pub passed-more : n < length s → ¬ Stop (drop n s) → first s ≡ take (n + 1) s ++ first (drop (n + 1) s)
+    passed-more l away =
+        let here : drop n s ≡ getD s n 0 ∷ drop (n + 1) s = rw (add-one n, drop-cons s n 0 l) in
+        let away′ : ¬ Stop (getD s n 0 ∷ drop (n + 1) s) = rw here at away in
+        passed ∙ ap (λ t. take n s ++ first t) here ∙ ap (λ t. take n s ++ t) (splits .goes _ _ away′)
+        ∙ (rw (add-one n, take-suc s n 0 l, append-assoc))
+
+    pub passed-found : Stop (drop n s) → take (n - 0) s ≡ first s
+    passed-found here = rw (sub-zero n) (sym (passed ∙ ap (λ t. take n s ++ t) (splits .stops _ here) ∙ append-nil (take n s)))
+
+    pub passed-all : length s ≤ n → s ≡ first s
+    passed-all l =
+        sym (passed ∙ ap (λ t. take n s ++ first t) (drop-of-length-le s l) ∙ ap (λ t. take n s ++ t) (splits .none)
+        ∙ append-nil (take n s) ∙ take-all n s l)
+
+-- The first part, after a byte is put before it.
+first-of : (b : ℕ) (rs : List Bytes) → getD (onFirst b rs) 0 [] ≡ b ∷ getD rs 0 []
+first-of b [] = refl
+first-of b (r ∷ rs) = refl
+
+-- Two tests that are not both true.
+not-and : (p q : Bool) → ¬ ((p ≡ true) × (q ≡ true)) → (p && q) ≡ false
+not-and true true n = absurd (n (refl, refl))
+not-and true false n = refl
+not-and false q n = refl
+
+-- A record ends before CR LF, a field before a comma.
+pub splits-records : Splits (λ s. (getD s 0 0 ≡ cr) × (getD s 1 0 ≡ lf)) (λ s. getD (records s) 0 [])
+unfolding records
+splits-records = record { none = refl; stops = stops; goes = goes }
+  where
+    stops : (s : Bytes) → (getD s 0 0 ≡ cr) × (getD s 1 0 ≡ lf) → getD (records s) 0 [] ≡ []
+    stops [] h = refl
+    stops (b ∷ []) h = absurd (omega (arith, h .1))
+    stops (b ∷ c ∷ s) h = rw (eq-eqb b cr (h .0), eq-eqb c lf (h .1))
+
+    goes : (b : ℕ) (s : Bytes) → ¬ ((b ≡ cr) × (getD s 0 0 ≡ lf)) → getD (records (b ∷ s)) 0 [] ≡ b ∷ getD (records s) 0 []
+    goes b [] n = refl
+    goes b (c ∷ s) n =
+        rw (not-and (eqb b cr) (eqb c lf) (λ h. n (eqb-true b cr (h .0), eqb-true c lf (h .1)))) (first-of b (records (c ∷ s)))
+
+pub splits-fields : Splits (λ s. getD s 0 0 ≡ comma) (λ s. getD (fields s) 0 [])
+unfolding fields
+splits-fields = record { none = refl; stops = stops; goes = goes }
+  where
+    stops : (s : Bytes) → getD s 0 0 ≡ comma → getD (fields s) 0 [] ≡ []
+    stops [] h = refl
+    stops (b ∷ s) h = rw (eq-eqb b comma h)
+
+    goes : (b : ℕ) (s : Bytes) → ¬ (b ≡ comma) → getD (fields (b ∷ s)) 0 [] ≡ b ∷ getD (fields s) 0 []
+    goes b s n = rw (ne-eqb b comma n) (first-of b (fields s))
+
+-- A byte more before the first part changes nothing of what follows it, which begins k bytes after that part.
+followed : (split : Bytes → List Bytes) (k b : ℕ) (s : Bytes) (rs : List Bytes)
+    → rs ≡ getD rs 0 [] ∷ split (drop (length (getD rs 0 []) + k) s)
+    → onFirst b rs ≡ getD (onFirst b rs) 0 [] ∷ split (drop (length (getD (onFirst b rs) 0 []) + k) (b ∷ s))
+followed split k b s [] e = let z : _≡_ {A = ℕ} 0 1 = cc in absurd (omega arith)
+followed split k b s (r ∷ rs) e =
+    let more : length (b ∷ r) + k ≡ suc (length r + k) = omega arith in
+    let rest : rs ≡ split (drop (length r + k) s) = cc in
+    rw more (ap (λ t. (b ∷ r) ∷ t) rest)
+
+-- The records of a text are its first, and those of what follows its CR LF.
+pub records-first : (s : Bytes) → 1 ≤ length s
+    → records s ≡ getD (records s) 0 [] ∷ records (drop (length (getD (records s) 0 []) + 2) s)
+unfolding records
+records-first [] h = absurd (omega arith)
+records-first (b ∷ []) h = refl
+records-first (b ∷ c ∷ s) h =
+    go (followed records 2 b (c ∷ s) (records (c ∷ s)) (records-first (c ∷ s) (omega arith))) (eqb b cr && eqb c lf)
+  where
+    Followed : List Bytes → Type 0
+    Followed rs = rs ≡ getD rs 0 [] ∷ records (drop (length (getD rs 0 []) + 2) (b ∷ c ∷ s))
+
+    go : Followed (onFirst b (records (c ∷ s))) → (t : Bool) → Followed (cond t ([] ∷ records s) (onFirst b (records (c ∷ s))))
+    go e true = refl
+    go e false = e
+
+-- The fields of a record are its first, and those of what follows its comma, if it has one.
+pub record Fielded (r : Bytes) (fs : List Bytes) : Type 0 where
+  pub more : ¬ (length (getD fs 0 []) ≡ length r) → fs ≡ getD fs 0 [] ∷ fields (drop (length (getD fs 0 []) + 1) r)
+  pub last : length (getD fs 0 []) ≡ length r → fs ≡ getD fs 0 [] ∷ []
+
+pub fields-first : (r : Bytes) → Fielded r (fields r)
+unfolding fields
+fields-first [] = record { more = λ n. absurd (n refl); last = λ e. refl }
+fields-first (b ∷ r) = go (fields-first r) (eqb b comma)
+  where
+    go : Fielded r (fields r) → (t : Bool) → Fielded (b ∷ r) (cond t ([] ∷ fields r) (onFirst b (fields r)))
+    go h true = record { more = λ n. refl; last = λ e. absurd (omega arith) }
+    go h false =
+        record {
+          more = λ n. followed fields 1 b r (fields r) (h .more (λ e. n (rw first-of (ap suc e))));
+          last =
+              λ e.
+              let e′ : length (b ∷ getD (fields r) 0 []) ≡ length (b ∷ r) = rw first-of at e in
+              rw (h .last (omega arith));
+        }
+
+-- A first part is no longer than the whole.
+module _ {Stop : Bytes → Type 0} {first : Bytes → Bytes} (splits : Splits Stop first) (stop? : (s : Bytes) → Dec (Stop s)) where
+  first-short : (s : Bytes) → length (first s) ≤ length s
+  first-short [] = rw (splits .none) (le-refl 0)
+  first-short (b ∷ s) =
+      elim (stop? (b ∷ s)) [
+        | yes h ↦ rw (splits .stops (b ∷ s) h) (omega arith)
+        | no h ↦ rw (splits .goes b s h) (omega (arith, first-short s))
+      ]
+
+pub record-short : (s : Bytes) → length (getD (records s) 0 []) ≤ length s
+record-short = first-short splits-records (λ s. Dec·and (ℕ-discrete (getD s 0 0) cr) (ℕ-discrete (getD s 1 0) lf))
+
+pub field-short : (r : Bytes) → length (getD (fields r) 0 []) ≤ length r
+field-short = first-short splits-fields (λ s. ℕ-discrete (getD s 0 0) comma)

@@ -1,0 +1,1 @@
+// The layout of constraint text, RFC 4180 without quotes, in specs/, and its laws, in proofs/; no function.
