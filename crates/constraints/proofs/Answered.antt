@@ -1,0 +1,100 @@
+-- What `read` has to show at each of its ends, over a plain text and plain lists. Assumes nothing.
+use Prim.Native.Nat.{ℕ, _+_, _≤_}
+use mathlib.Core.Path.{_≡_, refl, sym, ap, _∙_, subst}
+use mathlib.Core.List.{List, [], _∷_, _++_, map}
+use mathlib.Core.Logic.{inl, inr}
+use native.Mathlib.Omega.{arith}
+use lib.ListN.{length, drop, length-map}
+use Rattle.curves.specs.Pairs.{Pair, pairOf}
+use Rattle.curves.specs.Questions.{AllYes, FirstNo}
+use Rattle.curves.proofs.Asked.{yes-append, no-before, no-after}
+use Rattle.closure.specs.Closing.{maxHorizon}
+use Rattle.csv.specs.Text.{Bytes, records}
+use Rattle.csv.proofs.Splitting.{records-first, record-short}
+use Rattle.constraints.specs.Constraints.{constraintOf, largestWindow, messageLimit}
+use Rattle.constraints.specs.Reading.{later, constraints, horizonOf, question6, question10, question11}
+use Rattle.constraints.specs.Reading.{recordQuestions, questions, refused, given, reading}
+use Rattle.constraints.specs.Answers.{answer}
+use Rattle.constraints.specs.Steps.{Holds, filledFrom, Judged, Scanned, Delivered}
+use Rattle.constraints.specs.declared.Reading.{Reading}
+use Rattle.constraints.specs.declared.Reading.the-variants.{Read, HeaderLine, RecordForm, FigureRange, WindowAgain}
+use Rattle.constraints.specs.declared.Reading.the-variants.{NoRecord, ResultLength}
+use Rattle.constraints.specs.declared.Fault.{Fault}
+use Rattle.constraints.specs.declared.Scan.{Scan}
+use Rattle.constraints.specs.declared.table.Table.{Table}
+use Rattle.constraints.proofs.Tables.{filled-upper, filled-lower}
+use Rattle.constraints.proofs.Named.{in-range, largest-some, largest-bound, smallest-bound}
+use Rattle.constraints.proofs.Said.{refused-is, given-is}
+
+-- The table of sound records is bounded.
+pub bounded : (rs : List Bytes) (b : Table) → AllYes (recordQuestions [] rs) × Holds b (map constraintOf rs)
+    → (b .horizon ≤ maxHorizon) × (b .«smallest_most» ≤ messageLimit)
+bounded rs b sound = (
+  omega (arith, sound .1 .horizon, largest-bound (map constraintOf rs) (in-range [] rs (sound .0))),
+  omega (arith, sound .1 .smallest, smallest-bound (map constraintOf rs)),
+)
+
+-- Where the largest window is 1 at least there is a record.
+some-records : (rs : List Bytes) → 1 ≤ largestWindow (map constraintOf rs) → 1 ≤ length rs
+some-records [] h = absurd (omega arith)
+some-records (r ∷ rs) h = omega arith
+
+module _ (t : Bytes) (y₆ : question6 t .asked) where
+  -- After the header line the records begin at byte 19.
+  later-is : later t ≡ records (drop 19 t)
+  later-is =
+      ap (drop 1) (records-first t (omega (arith, record-short t, ap length (y₆ .1))))
+      ∙ ap (λ r. records (drop (length r + 2) t)) (y₆ .1)
+
+  -- What the records were found to be, by the fault that is known.
+  pub scanned : (s : Scan) (f : Fault) → s .fault ≡ f → Scanned (records (drop 19 t)) s → Judged (later t) (s .table) f
+  scanned s f e h = subst (Judged (later t) (s .table)) e (subst (λ rs. Scanned rs s) (sym later-is) h)
+
+-- The refusals: 6; 7 to 9, of a record; 10 and 11, after all records.
+module _ (t : Bytes) (found : Pair) where
+  no-is : (n : ℕ) → FirstNo (questions t found) n → refused n found ≡ reading t found
+  no-is n f = sym (refused-is t found n f)
+
+  pub no-6 : ¬ question6 t .asked → refused 6 found ≡ reading t found
+  no-6 n = no-is 6 (inl (refl, n))
+
+  module _ (y₆ : question6 t .asked) where
+    pub no-record : (n : ℕ) → FirstNo (recordQuestions [] (later t)) n → refused n found ≡ reading t found
+    no-record n f = no-is n (inr (y₆, no-before (recordQuestions [] (later t)) _ n f))
+
+    -- All records are sound, and the table b holds their constraints.
+    module _ (b : Table) (sound : AllYes (recordQuestions [] (later t)) × Holds b (constraints t)) where
+      no-then : (n : ℕ) → FirstNo (question10 t ∷ question11 t found ∷ []) n → refused n found ≡ reading t found
+      no-then n f = no-is n (inr (y₆, no-after (recordQuestions [] (later t)) _ n (sound .0) f))
+
+      -- What the table gives is the text's pair.
+      whole : (h : ℕ) → h ≡ horizonOf t → filledFrom b h found ≡ given t found .results
+      whole h e =
+          let l : horizonOf t ≤ maxHorizon = largest-bound (constraints t) (in-range [] (later t) (sound .0)) in
+          ap (λ k. filledFrom b k found) e
+          ∙ (λ i. pairOf
+          (filled-upper b (constraints t) (sound .1) (horizonOf t) l i ++ drop (horizonOf t) (found .upper))
+          (filled-lower b (constraints t) (sound .1) (horizonOf t) l i ++ drop (horizonOf t) (found .lower)))
+
+      some-window : question10 t .asked → 1 ≤ horizonOf t
+      some-window y = largest-some (constraints t) (in-range [] (later t) (sound .0)) (omega (arith, y, length-map (later t) constraintOf))
+
+      pub delivered-is : (r : Reading) (left : Pair) → Delivered b found left r → answer r left ≡ reading t found
+      delivered-is (Read h) left d =
+          let e : h ≡ horizonOf t = d .1 ∙ sound .1 .horizon in
+          let y₁₀ : question10 t .asked = some-records (later t) (omega (arith, d .0, e)) in
+          let y₁₁ : question11 t found .asked = (omega (arith, d .2, e), omega (arith, d .3, e)) in
+          let ys : AllYes (questions t found) = (y₆, yes-append (recordQuestions [] (later t)) _ (sound .0) (y₁₀, (y₁₁, tt))) in
+          (λ i. record { number = 0; horizon = e i; results = (d .4 ∙ whole h e) i })
+          ∙ sym (given-is t found ys)
+      delivered-is NoRecord left d =
+          ap (refused 10) (d .1)
+          ∙ no-then 10 (inl (refl, λ y. omega (arith, d .0, sound .1 .horizon, some-window y)))
+      delivered-is ResultLength left d =
+          let y₁₀ : question10 t .asked = some-records (later t) (omega (arith, d .0, sound .1 .horizon)) in
+          ap (refused 11) (d .2)
+          ∙ no-then 11 (inr (y₁₀, inl (refl, λ y. d .1 (omega (arith, y .0, sound .1 .horizon), omega (arith, y .1, sound .1 .horizon)))))
+      delivered-is HeaderLine left d = absurd d
+      delivered-is RecordForm left d = absurd d
+      delivered-is FigureRange left d = absurd d
+      delivered-is WindowAgain left d = absurd d

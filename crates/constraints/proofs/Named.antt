@@ -1,0 +1,107 @@
+-- What a set of constraints names, and what follows of constraints that were asked in order. Assumes nothing.
+use Prim.Native.Nat.{ℕ, _≤_}
+use mathlib.Core.Path.{_≡_, refl, sym, ap, _∙_, subst}
+use mathlib.Core.Bool.{Bool, cond}
+use mathlib.Core.List.{List, [], _∷_, _++_, map, append-assoc, append-nil}
+use mathlib.Core.Logic.{_⊎_, inl, inr, ⊎-elim}
+use native.Mathlib.Omega.{arith}
+use native.Mathlib.Decide.{ℕ-discrete}
+use lib.ListN.{length}
+use borrow.Author.Tests.{eq-eqb, ne-eqb}
+use Rattle.laws.specs.Tests.{Each}
+use Rattle.laws.proofs.Tests.{each-map}
+use Rattle.curves.specs.Questions.{AllYes}
+use Rattle.closure.specs.Closing.{maxHorizon}
+use Rattle.csv.specs.Text.{Bytes}
+use Rattle.constraints.specs.Constraints.{Constraint, WellFormed, constraintOf, messageLimit, InRange, New}
+use Rattle.constraints.specs.Constraints.{named, largestWindow, smallestMost}
+use Rattle.constraints.specs.Reading.{recordQuestions}
+
+module _ {A : Type 0} (what : Constraint → A) (other : A) where
+  pub named-first : (c : Constraint) (cs : List Constraint) (d : ℕ) → c .window ≡ d → named what other (c ∷ cs) d ≡ what c
+  unfolding named
+  named-first c cs d e = ap (λ (b : Bool). cond b (what c) (named what other cs d)) (eq-eqb (c .window) d e)
+
+  pub named-next : (c : Constraint) (cs : List Constraint) (d : ℕ) → ¬ (c .window ≡ d) → named what other (c ∷ cs) d ≡ named what other cs d
+  unfolding named
+  named-next c cs d e = ap (λ (b : Bool). cond b (what c) (named what other cs d)) (ne-eqb (c .window) d e)
+
+  -- Constraints for other windows can be left out.
+  pub named-new : (earlier : List Constraint) (c : Constraint) (cs : List Constraint) → New earlier c
+      → named what other (earlier ++ cs) (c .window) ≡ named what other cs (c .window)
+  named-new [] c cs n = refl
+  named-new (e ∷ earlier) c cs n = named-next e (earlier ++ cs) (c .window) (n .0) ∙ named-new earlier c cs (n .1)
+
+-- A constraint that was asked after others is the one that is named for its window.
+pub named-own : {A : Type 0} (what : Constraint → A) (other : ℕ → A) (earlier : List Constraint) (rs : List Bytes)
+    → AllYes (recordQuestions earlier rs)
+    → Each (λ c. named what (other (c .window)) (earlier ++ map constraintOf rs) (c .window) ≡ what c) (map constraintOf rs)
+named-own what other earlier [] ys = tt
+named-own what other earlier (r ∷ rs) ys =
+    let c = constraintOf r in
+    let cs = map constraintOf rs in (
+      named-new what (other (c .window)) earlier c (c ∷ cs) (ys .1 .1 .0) ∙ named-first what (other (c .window)) c cs (c .window) refl,
+      subst
+          (λ (all : List Constraint). Each (λ e. named what (other (e .window)) all (e .window) ≡ what e) cs)
+          (append-assoc earlier (c ∷ []) cs)
+          (named-own what other (earlier ++ (c ∷ [])) rs (ys .1 .1 .1)),
+    )
+
+-- A window is named by some constraint, which then gives all that is named for it, or by none.
+pub named-or-not : (P : Constraint → Type 0) (cs : List Constraint) (d : ℕ) → Each P cs
+    → ((c : Constraint) × P c × (c .window ≡ d) × ((what : Constraint → ℕ) (other : ℕ) → named what other cs d ≡ what c))
+    ⊎ ((what : Constraint → ℕ) (other : ℕ) → named what other cs d ≡ other)
+unfolding named
+named-or-not P [] d ps = inr (λ what other. refl)
+named-or-not P (c ∷ cs) d ps =
+    elim (ℕ-discrete (c .window) d) [
+      | yes e ↦ inl (c, ps .0, e, λ what other. named-first what other c cs d e)
+      | no e ↦ ⊎-elim
+          (λ f. inl (f .0, f .1, f .2, λ what other. named-next what other c cs d e ∙ f .3 what other))
+          (λ f. inr (λ what other. named-next what other c cs d e ∙ f what other))
+          (named-or-not P cs d (ps .1))
+    ]
+
+-- Records that were asked, and one more.
+pub one-more : (earlier : List Constraint) (rs : List Bytes) (r : Bytes) → AllYes (recordQuestions earlier rs)
+    → WellFormed r → InRange (constraintOf r) → New (earlier ++ map constraintOf rs) (constraintOf r)
+    → AllYes (recordQuestions earlier (rs ++ (r ∷ [])))
+one-more earlier [] r ys w i n = (w, (i, (subst (λ (cs : List Constraint). New cs (constraintOf r)) (append-nil earlier) n, tt)))
+one-more earlier (x ∷ rs) r ys w i n = (
+  ys .0,
+  (
+    ys .1 .0,
+    (
+      ys .1 .1 .0,
+      one-more (earlier ++ (constraintOf x ∷ [])) rs r (ys .1 .1 .1) w i
+          (subst (λ (cs : List Constraint). New cs (constraintOf r))
+          (sym (append-assoc earlier (constraintOf x ∷ []) (map constraintOf rs))) n),
+    ),
+  ),
+)
+
+-- ---- bounds
+-- Constraints that were asked are in range, and their windows are at most the largest.
+pub in-range : (earlier : List Constraint) (rs : List Bytes) → AllYes (recordQuestions earlier rs) → Each InRange (map constraintOf rs)
+in-range earlier [] ys = tt
+in-range earlier (r ∷ rs) ys = (ys .1 .0, in-range (earlier ++ (constraintOf r ∷ [])) rs (ys .1 .1 .1))
+
+pub window-largest : (cs : List Constraint) → Each (λ c. c .window ≤ largestWindow cs) cs
+window-largest [] = tt
+window-largest (c ∷ cs) = (omega arith, each-map _ _ cs (λ e h. omega (arith, h)) (window-largest cs))
+
+pub largest-le : (cs : List Constraint) (n : ℕ) → Each (λ c. c .window ≤ n) cs → largestWindow cs ≤ n
+largest-le [] n hs = omega arith
+largest-le (c ∷ cs) n hs = omega (arith, hs .0, largest-le cs n (hs .1))
+
+pub largest-bound : (cs : List Constraint) → Each InRange cs → largestWindow cs ≤ maxHorizon
+largest-bound cs rs = largest-le cs maxHorizon (each-map InRange _ cs (λ c r. r .window) rs)
+
+pub smallest-bound : (cs : List Constraint) → smallestMost cs ≤ messageLimit
+smallest-bound [] = omega arith
+smallest-bound (c ∷ cs) = omega (arith, smallest-bound cs)
+
+-- Where there is a constraint, there is a window.
+pub largest-some : (cs : List Constraint) → Each InRange cs → 1 ≤ length cs → 1 ≤ largestWindow cs
+largest-some [] rs n = absurd (omega arith)
+largest-some (c ∷ cs) rs n = omega (arith, rs .0 .some)

@@ -1,0 +1,69 @@
+-- What `reading` says, case by case: refused where a question is the first that is answered no, else the text's pair.
+-- Assumes nothing.
+use Prim.Native.Nat.{ℕ}
+use mathlib.Core.Path.{_≡_, refl, ap, _∙_}
+use mathlib.Core.List.{List, [], _∷_, _++_}
+use native.Mathlib.Omega.{arith}
+use lib.ListN.{take}
+use lib.Seq.{take-at}
+use Rattle.laws.specs.Ranges.{table}
+use Rattle.laws.proofs.Table.{length-table}
+use Rattle.curves.specs.Pairs.{Pair}
+use Rattle.curves.specs.Questions.{Question, AllYes, FirstNo}
+use Rattle.curves.proofs.Asked.{said-no, said-yes, yes-parts, Positive, no-iff, yes-iff}
+use Rattle.csv.specs.Text.{Bytes}
+use Rattle.constraints.specs.Constraints.{Constraint, constraintOf}
+use Rattle.constraints.specs.Reading.{later, horizonOf, recordQuestions, question10, question11, questions, refused, given, reading}
+use Rattle.constraints.specs.Theorems.{RefusedIffFirstNo, PairIffAllYes, GivesPair, GivenIsTextPair}
+
+module _ (t : Bytes) (found : Pair) where
+  pub refused-is : (n : ℕ) → FirstNo (questions t found) n → reading t found ≡ refused n found
+  unfolding reading
+  refused-is n f = said-no (questions t found) _ (λ k. refused k found) n f
+
+  pub given-is : AllYes (questions t found) → reading t found ≡ given t found
+  unfolding reading
+  given-is ys = said-yes (questions t found) _ _ (given t found) ys (λ _. refl)
+
+positive-records : (earlier : List Constraint) (rs : List Bytes) (qs : List Question) → Positive qs
+    → Positive (recordQuestions earlier rs ++ qs)
+positive-records earlier [] qs h = h
+positive-records earlier (r ∷ rs) qs h =
+    (omega arith, (omega arith, (omega arith, positive-records (earlier ++ (constraintOf r ∷ [])) rs qs h)))
+
+positive-numbers : (t : Bytes) (found : Pair) → Positive (questions t found)
+positive-numbers t found =
+    (omega arith, positive-records [] (later t) (question10 t ∷ question11 t found ∷ []) (omega arith, (omega arith, tt)))
+
+-- ---- the statements
+pub refused-iff-first-no : RefusedIffFirstNo
+unfolding reading
+refused-iff-first-no t found =
+    no-iff (questions t found) _ (λ k. refused k found) (λ x. x .number) (λ k. refl) (λ ys. refl) (positive-numbers t found)
+
+pub pair-iff-all-yes : PairIffAllYes
+unfolding reading
+pair-iff-all-yes t found =
+    yes-iff (questions t found) _ (λ k. refused k found) (λ x. x .number) (λ k. refl) (λ ys. refl) (positive-numbers t found)
+
+-- Where a pair is given, the records were asked, there is one, and the lists are long enough.
+pub gives-asked : (t : Bytes) (found : Pair) → GivesPair t found
+    → AllYes (recordQuestions [] (later t)) × (question10 t .asked) × (question11 t found .asked)
+gives-asked t found g =
+    let ys = pair-iff-all-yes t found .0 g in
+    let (rs, more) = yes-parts (recordQuestions [] (later t)) (question10 t ∷ question11 t found ∷ []) (ys .1) in
+    (rs, more .0, more .1 .0)
+
+-- The first h entries of a table of h, with others after it.
+front : (f : ℕ → ℕ) (h : ℕ) (xs : List ℕ) → take h (table f h ++ xs) ≡ table f h
+front f h xs = take-at (table f h) xs h (length-table f h)
+
+pub given-is-text-pair : GivenIsTextPair
+given-is-text-pair t found g =
+    let e = given-is t found (pair-iff-all-yes t found .0 g) in (
+      ap (λ x. x .horizon) e,
+      λ i. record {
+        upper = (ap (λ x. take (x .horizon) (x .results .upper)) e ∙ front _ (horizonOf t) _) i;
+        lower = (ap (λ x. take (x .horizon) (x .results .lower)) e ∙ front _ (horizonOf t) _) i;
+      },
+    )

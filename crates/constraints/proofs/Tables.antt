@@ -1,0 +1,149 @@
+-- Laws of the table of constraints: what it holds, with none, with one more, and what is filled from it.
+-- Assumes nothing.
+use Prim.Native.Nat.{ℕ, suc, _+_, _-_, _*_, _≤_, min, max}
+use mathlib.Core.Path.{_≡_, refl, sym, ap, _∙_}
+use mathlib.Core.Bool.{Bool, true, false, cond}
+use mathlib.Core.List.{List, [], _∷_, _++_}
+use native.Mathlib.Nat.{mul-le-mul}
+use native.Mathlib.Omega.{arith}
+use borrow.Author.Tests.{eqb-true, eqb-false, eq-eqb, ne-eqb}
+use lib.Dec.{eqb}
+use lib.ListN.{getD, set, replicate}
+use Rattle.laws.specs.Ranges.{table}
+use Rattle.laws.specs.Tests.{Either}
+use Rattle.laws.proofs.Table.{getD-table, table-ext, table-set, table-same-entry}
+use Rattle.closure.specs.Closing.{maxHorizon}
+use Rattle.constraints.specs.Constraints.{Constraint, InRange, New, named, largestWindow, smallestMost, messageLimit}
+use Rattle.constraints.specs.Steps.{Holds, with, ceilingIn, leastIn}
+use Rattle.constraints.specs.declared.table.Table.{Table}
+
+-- ---- what one entry of a table gives
+-- The ceiling of a window that is named, and of one that is not; how large it is; the least by its index.
+pub ceiling-named : (t : Table) (d : ℕ) → getD (t .named) (d - 1) false ≡ true → getD (t .mosts) (d - 1) 0 ≡ ceilingIn t d
+ceiling-named t d e = rw e
+
+pub ceiling-other : (t : Table) (d : ℕ) → getD (t .named) (d - 1) false ≡ false → d * t .«smallest_most» ≡ ceilingIn t d
+ceiling-other t d e = rw e
+
+pub product-bound : (d m : ℕ) → d ≤ maxHorizon → m ≤ messageLimit → d * m ≤ 16_776_960
+product-bound d m h l = mul-le-mul h l
+
+pub least-next : (t : Table) (i : ℕ) → getD (t .leasts) i 0 ≡ leastIn t (i + 1)
+least-next t i = let e : i + 1 - 1 ≡ i = omega arith in rw e
+
+-- ---- no constraint
+pub holds-none
+    : Holds
+    (record {
+      horizon = 0;
+      «smallest_most» = messageLimit;
+      named = replicate 256 false;
+      leasts = replicate 256 0;
+      mosts = replicate 256 0;
+    })
+    []
+unfolding named
+holds-none =
+    record {
+      horizon = refl;
+      smallest = refl;
+      names = table-same-entry (named (λ c. true) false []) false (λ d. refl) 256;
+      leasts = table-same-entry (named (λ c. c .least) 0 []) 0 (λ d. refl) 256;
+      mosts = table-same-entry (named (λ c. c .most) 0 []) 0 (λ d. refl) 256;
+    }
+
+-- ---- one constraint more, of a window that no other names
+-- Two choices of which only one is made can be asked in any order.
+exchanged : {A : Type 0} (p q : Bool) (x y z : A) → ¬ ((p ≡ true) × (q ≡ true)) → cond p x (cond q y z) ≡ cond q y (cond p x z)
+exchanged true true x y z n = absurd (n (refl, refl))
+exchanged true false x y z n = refl
+exchanged false q x y z n = refl
+
+-- What a set names, its largest window and its smallest most, with one constraint more at its end.
+named-more : {A : Type 0} (what : Constraint → A) (other : A) (cs : List Constraint) (c : Constraint) (d : ℕ) → New cs c
+    → named what other (cs ++ (c ∷ [])) d ≡ cond (eqb (c .window) d) (what c) (named what other cs d)
+unfolding named
+named-more what other [] c d h = refl
+named-more what other (e ∷ cs) c d h =
+    rw (named-more what other cs c d (h .1))
+    (exchanged (eqb (e .window) d) (eqb (c .window) d) _ _ _
+    (λ k. h .0 (eqb-true (e .window) d (k .0) ∙ sym (eqb-true (c .window) d (k .1)))))
+
+largest-more : (cs : List Constraint) (c : Constraint) → max (largestWindow cs) (c .window) ≡ largestWindow (cs ++ (c ∷ []))
+largest-more [] c = omega arith
+largest-more (e ∷ cs) c = omega (arith, largest-more cs c)
+
+smallest-more : (cs : List Constraint) (c : Constraint) → min (smallestMost cs) (c .most) ≡ smallestMost (cs ++ (c ∷ []))
+smallest-more [] c = omega arith
+smallest-more (e ∷ cs) c = omega (arith, smallest-more cs c)
+
+module _ (t : Table) (cs : List Constraint) (c : Constraint) (h : Holds t cs) (r : InRange c) where
+  -- So the table's arrays change at that window alone.
+  set-more : {A : Type 0} (what : Constraint → A) (other : A) → New cs c
+      → set (table (named what other cs) maxHorizon) (c .window - 1) (what c) ≡ table (named what other (cs ++ (c ∷ []))) maxHorizon
+  set-more what other new =
+      table-set (named what other cs) (named what other (cs ++ (c ∷ []))) maxHorizon (c .window) (what c) (r .some) (r .window)
+      (sym (named-more what other cs c (c .window) new ∙ (rw (eq-eqb (c .window) (c .window) refl))))
+      (λ k n. sym (named-more what other cs c k new ∙ (rw (ne-eqb (c .window) k (λ e. n (sym e))))))
+
+  pub holds-more : New cs c → Holds (with t (c .window) (c .least) (c .most)) (cs ++ (c ∷ []))
+  holds-more new =
+      record {
+        horizon = ap (λ n. max n (c .window)) (h .horizon) ∙ largest-more cs c;
+        smallest = ap (λ n. min n (c .most)) (h .smallest) ∙ smallest-more cs c;
+        names = ap (λ l. set l (c .window - 1) true) (h .names) ∙ set-more (λ e. true) false new;
+        leasts = ap (λ l. set l (c .window - 1) (c .least)) (h .leasts) ∙ set-more (λ e. e .least) 0 new;
+        mosts = ap (λ l. set l (c .window - 1) (c .most)) (h .mosts) ∙ set-more (λ e. e .most) 0 new;
+      }
+
+-- ---- whether a window is named
+-- A window that the set names is not new, and any other is.
+new-told : (cs : List Constraint) (c : Constraint) → Either (named (λ e. true) false cs (c .window)) (¬ New cs c) (New cs c)
+unfolding named
+new-told [] c = tt
+new-told (e ∷ cs) c = go (eqb (e .window) (c .window)) refl (named (λ x. true) false cs (c .window)) (new-told cs c)
+  where
+    go : (b : Bool) → eqb (e .window) (c .window) ≡ b → (r : Bool) → Either r (¬ New cs c) (New cs c)
+        → Either (cond b true r) (¬ New (e ∷ cs) c) (New (e ∷ cs) c)
+    go true k r h = λ n. n .0 (eqb-true _ _ k)
+    go false k true h = λ n. h (n .1)
+    go false k false h = (eqb-false _ _ k, h)
+
+-- An entry of an array of the table, by its window.
+entry : {A : Type 0} (cs : List Constraint) (what : Constraint → A) (z : A) (xs : List A) → xs ≡ table (named what z cs) maxHorizon
+    → (d : ℕ) → 1 ≤ d → d ≤ maxHorizon → getD xs (d - 1) z ≡ named what z cs d
+entry cs what z xs e d p q =
+    let s : suc (d - 1) ≡ d = omega arith in
+    ap (λ x. getD x (d - 1) z) e ∙ getD-table (named what z cs) maxHorizon (d - 1) z (omega arith) ∙ ap (named what z cs) s
+
+-- What the table tells of a window in range.
+pub names-told : (t : Table) (cs : List Constraint) (c : Constraint) → Holds t cs → InRange c
+    → (r : Bool) → r ≡ getD (t .named) (c .window - 1) false → Either r (¬ New cs c) (New cs c)
+names-told t cs c h i r e =
+    rw (e, entry cs (λ x. true) false (t .named) (h .names) (c .window) (i .some) (i .window)) (new-told cs c)
+
+-- ---- what is filled from a table
+-- What is named, or else another value than the table's.
+named-else : {A : Type 0} (what : Constraint → A) (z other : A) (cs : List Constraint) (d : ℕ)
+    → cond (named (λ c. true) false cs d) (named what z cs d) other ≡ named what other cs d
+unfolding named
+named-else what z other [] d = refl
+named-else {A = A} what z other (c ∷ cs) d = go (eqb (c .window) d) _ _ _ (named-else what z other cs d)
+  where
+    go : (b n : Bool) (x y : A) → cond n x other ≡ y → cond (cond b true n) (cond b (what c) x) other ≡ cond b (what c) y
+    go true n x y e = refl
+    go false n x y e = e
+
+-- What is filled from a table is what filling is to give.
+module _ (t : Table) (cs : List Constraint) (h : Holds t cs) (n : ℕ) (l : n ≤ maxHorizon) where
+  pub filled-upper : table (ceilingIn t) n ≡ table (λ d. named (λ c. c .most) (d * smallestMost cs) cs d) n
+  filled-upper = table-ext _ _ n ceiling
+    where
+      ceiling : (d : ℕ) → 1 ≤ d → d ≤ n → ceilingIn t d ≡ named (λ c. c .most) (d * smallestMost cs) cs d
+      ceiling d p q =
+          let q′ : d ≤ maxHorizon = omega arith in
+          rw (entry cs (λ c. true) false (t .named) (h .names) d p q′, entry cs (λ c. c .most) 0 (t .mosts) (h .mosts) d p q′, h .smallest)
+          (named-else (λ c. c .most) 0 (d * smallestMost cs) cs d)
+
+  pub filled-lower : table (leastIn t) n ≡ table (λ d. named (λ c. c .least) 0 cs d) n
+  filled-lower = table-ext _ _ n (λ d p q. entry cs (λ c. c .least) 0 (t .leasts) (h .leasts) d p (omega arith))

@@ -1,0 +1,86 @@
+-- `constraints::read` meets its promise: each refusal where its question is the first that is answered no, and else the text's pair.
+-- Assumes nothing.
+use mathlib.Core.Path.{_≡_, sym, _∙_}
+use native.Mathlib.Omega.{arith}
+use borrow.Author.Needs.{needs}
+use borrow.Author.Tests.{not-true, not-false}
+use Rattle.laws.proofs.Tests.{either-true, either-false}
+use Rattle.csv.specs.Text.{Bytes, header}
+use Rattle.constraints.specs.Reading.{later, question6}
+use Rattle.constraints.specs.Steps.{Judged}
+use Rattle.constraints.specs.declared.Fault.{Fault}
+use Rattle.constraints.specs.declared.Fault.the-variants.{Sound, Form, Range, Again}
+use Rattle.constraints.proofs.Answered.{no-6, scanned, no-record, bounded, delivered-is}
+use Rattle.constraints.proofs.read.Statement.{statement}
+use Rattle.constraints.proofs.read.Tie as tie
+
+returns : tie.Need-returns
+returns c = no-6 _ _ (λ y. omega (arith, y .0, c .if1 .taken))
+
+returns-2 : tie.Need-returns-2
+returns-2 c =
+    let line = c .before .before .find-record in
+    let told = c .before .is-header .result in
+    let other : ¬ (line .result .now ≡ header) = either-false _ _ told (not-true told (c .if2 .taken)) (c .before .is-header .ensures) in
+    no-6 _ _ (λ y. other (line .ensures ∙ y .1))
+
+-- Where the first line is the header.
+abbrev text : tie.Else2 → Bytes
+text e = e .before .before .before .before .before .before .before .args .text .now
+
+asked : (e : tie.Else2) → question6 (text e) .asked
+asked e =
+    let line = e .before .before .find-record in
+    let told = e .before .is-header .result in
+    let same : line .result .now ≡ header = either-true _ _ told (not-false told (e .if2 .left)) (e .before .is-header .ensures) in
+    (omega arith, sym (line .ensures) ∙ same)
+
+-- What the records after it were found to be.
+of-records : (k : tie.After-read-records) (f : Fault) → k .read-records .result .fault ≡ f
+    → Judged (later (text (k .before))) (k .read-records .result .table) f
+of-records k f e = scanned _ (asked (k .before)) (k .read-records .result) f e (k .read-records .ensures)
+
+deliver-requires : tie.Need-deliver-requires
+deliver-requires c κs =
+    let k = c .before .before .before .before .before in
+    bounded (later (text (k .before))) _ (of-records k Sound (c .before .before .enum-told .given .1))
+
+returns-3 : tie.Need-returns-3
+returns-3 c =
+    let d = c .before .before .before .before in
+    let k = d .before .before .before .before .before .before in
+    let sound = of-records k Sound (d .before .before .before .enum-told .given .1) in
+    delivered-is _ _ (asked (k .before)) _ sound (d .deliver .result) _ (d .deliver .ensures)
+
+returns-4 : tie.Need-returns-4
+returns-4 c =
+    let k = c .before .before .before in no-record _ _ (asked (k .before)) 7 (of-records k Form (c .enum-told2 .given .1))
+
+returns-5 : tie.Need-returns-5
+returns-5 c =
+    let k = c .before .before .before in no-record _ _ (asked (k .before)) 8 (of-records k Range (c .enum-told3 .given .1))
+
+returns-6 : tie.Need-returns-6
+returns-6 c =
+    let k = c .before .before .before in no-record _ _ (asked (k .before)) 9 (of-records k Again (c .enum-told4 .given .1))
+
+pub read-spec : {M : Type 1} → statement M
+read-spec =
+    tie.close
+    (tie.spec
+    returns
+    (λ c κs. search needs)
+    (λ c κs. search needs)
+    returns-2
+    (λ c κs. search needs)
+    (λ c. search needs)
+    deliver-requires
+    (λ c. search needs)
+    (λ c. search needs)
+    (λ c. search needs)
+    (λ c. search needs)
+    (λ c. search needs)
+    returns-3
+    returns-4
+    returns-5
+    returns-6)

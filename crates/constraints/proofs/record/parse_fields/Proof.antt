@@ -1,0 +1,43 @@
+-- `constraints::record::parse_fields` meets its contract: one field after the other is a number or is none.
+-- Assumes nothing.
+use mathlib.Core.Path.{subst}
+use borrow.Author.Needs.{needs}
+use Rattle.constraints.specs.Steps.{Numbered}
+use Rattle.constraints.proofs.record.parse_fields.Statement.{statement}
+use Rattle.constraints.proofs.record.parse_fields.Tie as tie
+
+returns : tie.Need-returns
+returns c = λ h. subst (Numbered _) (c .enum-told .given .1) (c .before .before .parse-number .ensures) (h .0)
+
+returns-2 : tie.Need-returns-2
+returns-2 c = λ h. subst (Numbered _) (c .enum-told2 .given .1) (c .before .before .parse-number2 .ensures) (h .1)
+
+returns-3 : tie.Need-returns-3
+returns-3 c = λ h. subst (Numbered _) (c .enum-told3 .given .1) (c .before .before .parse-number3 .ensures) (h .2)
+
+returns-4 : tie.Need-returns-4
+returns-4 c =
+    let w = c .before .before .before .before .before .before .before .before in
+    let l = c .before .before .before .before in (
+      subst (Numbered _) (w .before .w .given .1) (w .before .before .before .parse-number .ensures),
+      subst (Numbered _) (l .before .l .given .1) (l .before .before .before .parse-number2 .ensures),
+      subst (Numbered _) (c .before .m .given .1) (c .before .before .before .parse-number3 .ensures),
+    )
+
+pub parse-fields-spec : {M : Type 1} → statement M
+parse-fields-spec =
+    tie.close
+    (tie.spec
+    (λ c κs. search needs)
+    (λ c. search needs)
+    (λ c. search needs)
+    returns
+    (λ c κs. search needs)
+    (λ c. search needs)
+    (λ c. search needs)
+    returns-2
+    (λ c κs. search needs)
+    (λ c. search needs)
+    (λ c. search needs)
+    returns-3
+    returns-4)

@@ -1,0 +1,108 @@
+-- Reading (document 01, "Triples as CSV text" and questions 6 to 11): text in, two lists lent for results.
+use Prim.Native.Nat.{ℕ, _≤_}
+use mathlib.Core.Path.{_≡_}
+use mathlib.Core.List.{List, [], _∷_, _++_, map}
+use mathlib.Core.Logic.{Dec·and, Dec·not}
+use native.Mathlib.Decide.{decLe, ℕ-discrete}
+use lib.ListN.{length, getD, drop}
+use Rattle.laws.proofs.Tests.{each?, equal-lists?}
+use Rattle.curves.specs.Pairs.{Pair}
+use Rattle.curves.specs.Questions.{Question, answerTo}
+use Rattle.csv.specs.Text.{Bytes, header, records}
+use Rattle.constraints.specs.Decisions.{wellFormed?, inRange?}
+use Rattle.constraints.specs.Constraints.{Constraint, WellFormed, constraintOf, InRange, New, largestWindow, filled}
+
+-- The longest text.
+abbrev pub textLimit : ℕ
+textLimit = 16_384
+
+-- The records after the first line, and the constraints that they spell.
+abbrev pub later : Bytes → List Bytes
+later t = drop 1 (records t)
+
+abbrev pub constraints : Bytes → List Constraint
+constraints t = map constraintOf (later t)
+
+-- The horizon of a text is the largest window named, and its pair is filled up to there.
+abbrev pub horizonOf : Bytes → ℕ
+horizonOf t = largestWindow (constraints t)
+
+abbrev pub textPair : Bytes → Pair
+textPair t = filled (horizonOf t) (constraints t)
+
+-- 6. The text is not too long, and its first line is the header.
+abbrev pub question6 : Bytes → Question
+question6 t =
+    record {
+      number = 6;
+      asked = (length t ≤ textLimit) × (getD (records t) 0 [] ≡ header);
+      answered = Dec·and (decLe (length t) textLimit) (equal-lists? (getD (records t) 0 []) header);
+    }
+
+-- 7. The record's form.
+abbrev pub question7 : Bytes → Question
+question7 r = record { number = 7; asked = WellFormed r; answered = wellFormed? r }
+
+-- 8. Its figures are in range.
+abbrev pub question8 : Bytes → Question
+question8 r = record { number = 8; asked = InRange (constraintOf r); answered = inRange? (constraintOf r) }
+
+-- 9. Its window is new.
+abbrev pub question9 : List Constraint → Bytes → Question
+question9 earlier r =
+    record {
+      number = 9;
+      asked = New earlier (constraintOf r);
+      answered = each? _ (λ e. Dec·not (ℕ-discrete (e .window) (constraintOf r .window))) earlier;
+    }
+
+-- Records are asked one after the other, so that the first faulty one gives the number.
+abbrev pub recordQuestions : List Constraint → List Bytes → List Question
+recordQuestions earlier [] = []
+recordQuestions earlier (r ∷ rs) =
+    question7 r ∷ question8 r ∷ question9 earlier r ∷ recordQuestions (earlier ++ (constraintOf r ∷ [])) rs
+
+-- 10. There is a record.
+abbrev pub question10 : Bytes → Question
+question10 t = record { number = 10; asked = 1 ≤ length (later t); answered = decLe 1 (length (later t)) }
+
+-- 11. Neither result list, as found, is shorter than the horizon.
+abbrev pub question11 : Bytes → Pair → Question
+question11 t found =
+    record {
+      number = 11;
+      asked = (horizonOf t ≤ length (found .upper)) × (horizonOf t ≤ length (found .lower));
+      answered = Dec·and (decLe (horizonOf t) (length (found .upper))) (decLe (horizonOf t) (length (found .lower)));
+    }
+
+abbrev pub questions : Bytes → Pair → List Question
+questions t found = (question6 t ∷ recordQuestions [] (later t)) ++ (question10 t ∷ question11 t found ∷ [])
+
+-- What reading answers, with the two result lists as it leaves them.
+pub record Answer : Type 0 where
+  -- The number of the refusal; 0 where there is none.
+  pub number : ℕ
+  -- The pair's horizon.
+  pub horizon : ℕ
+  pub results : Pair
+
+-- A refusal: its number, nothing else, and the result lists as found.
+abbrev pub refused : ℕ → Pair → Answer
+refused n found = record { number = n; horizon = 0; results = found }
+
+-- The text's pair in the first H entries of the result lists; the others as found.
+abbrev pub given : Bytes → Pair → Answer
+given t found =
+    record {
+      number = 0;
+      horizon = horizonOf t;
+      results =
+          record {
+            upper = textPair t .upper ++ drop (horizonOf t) (found .upper);
+            lower = textPair t .lower ++ drop (horizonOf t) (found .lower);
+          };
+    }
+
+-- Reading the text t: the first question that is answered no gives its number, else the text's pair is given.
+unfoldable pub reading : Bytes → Pair → Answer
+reading t found = answerTo (questions t found) (λ _. given t found) (λ n. refused n found)

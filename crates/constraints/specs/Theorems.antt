@@ -1,0 +1,67 @@
+-- What is proved of reading, from what `reading` says alone: so it holds of any code that keeps `read`'s promise.
+use Prim.Native.Nat.{ℕ, _≤_, _<_}
+use mathlib.Core.Path.{_≡_}
+use mathlib.Core.List.{List, [], _∷_, map}
+use mathlib.Core.Logic.{_↔_}
+use lib.ListN.{length, getD, take}
+use Rattle.laws.specs.Tests.{Each}
+use Rattle.curves.specs.Streams.{Stream}
+use Rattle.curves.specs.Pairs.{Pair}
+use Rattle.curves.specs.Conformance.{Conforms∞}
+use Rattle.curves.specs.Questions.{Question, AllYes, FirstNo}
+use Rattle.closure.specs.Closing.{question1, question2, question4}
+use Rattle.csv.specs.Text.{Bytes}
+use Rattle.constraints.specs.Constraints.{constraintOf, Keeps}
+use Rattle.constraints.specs.Reading.{later, constraints, horizonOf, textPair, question6, question7, question8}
+use Rattle.constraints.specs.Reading.{question9, questions, refused, reading}
+
+-- ---- Demand 1: refused with n exactly when question n is the first that is answered no; else a pair is given.
+abbrev pub GivesPair : Bytes → Pair → Type 0
+GivesPair t found = reading t found .number ≡ 0
+
+abbrev pub RefusedIffFirstNo : Type 0
+RefusedIffFirstNo = (t : Bytes) (found : Pair) (n : ℕ) → ((1 ≤ n) × (reading t found ≡ refused n found)) ↔ FirstNo (questions t found) n
+
+abbrev pub PairIffAllYes : Type 0
+PairIffAllYes = (t : Bytes) (found : Pair) → GivesPair t found ↔ AllYes (questions t found)
+
+-- The three questions of record i of rs, after the records before it.
+abbrev pub questionsAt : List Bytes → ℕ → List Question
+questionsAt rs i = question7 (getD rs i []) ∷ question8 (getD rs i []) ∷ question9 (map constraintOf (take i rs)) (getD rs i []) ∷ []
+
+-- The first faulty record, and the number that it gives.
+pub record FirstFaulty (rs : List Bytes) (n : ℕ) : Type 0 where
+  pub at : ℕ
+  pub within : at < length rs
+  pub sound : (i : ℕ) → i < at → AllYes (questionsAt rs i)
+  pub fault : FirstNo (questionsAt rs at) n
+
+-- 7, 8 and 9: below a header line as asked for, by the first faulty record.
+abbrev pub RefusedIffFirstFaulty : Type 0
+RefusedIffFirstFaulty =
+    (t : Bytes) (found : Pair) (n : ℕ) → 7 ≤ n → n ≤ 9
+    → (reading t found ≡ refused n found) ↔ ((question6 t .asked) × FirstFaulty (later t) n)
+
+-- ---- the pair that is given: the first H entries of the result lists
+abbrev pub givenPair : Bytes → Pair → Pair
+givenPair t found =
+    record {
+      upper = take (reading t found .horizon) (reading t found .results .upper);
+      lower = take (reading t found .horizon) (reading t found .results .lower);
+    }
+
+abbrev pub GivenIsTextPair : Type 0
+GivenIsTextPair =
+    (t : Bytes) (found : Pair) → GivesPair t found → (reading t found .horizon ≡ horizonOf t) × (givenPair t found ≡ textPair t)
+
+-- It passes closing's questions 1, 2 and 4.
+abbrev pub GivenPasses : Type 0
+GivenPasses =
+    (t : Bytes) (found : Pair) → GivesPair t found
+    → AllYes (question1 (givenPair t found) ∷ question2 (givenPair t found) ∷ question4 (givenPair t found) ∷ [])
+
+-- ---- The unbounded streams that conform to it are those that keep every constraint of the text: filling adds nothing.
+abbrev pub KeepsIffConforms : Type 0
+KeepsIffConforms =
+    (t : Bytes) (found : Pair) → GivesPair t found
+    → (s : Stream) → Each (Keeps (s .counts)) (constraints t) ↔ Conforms∞ (givenPair t found) (s .counts)
