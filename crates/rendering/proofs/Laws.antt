@@ -1,0 +1,105 @@
+-- Laws over plain variables that the proofs of this crate's functions cite.
+-- Assumes nothing.
+use Prim.Native.Nat.{ℕ, zero, suc, _+_, _-_, _*_, _/_, _≤_, _<_}
+use mathlib.Core.Path.{_≡_, refl, sym, ap, _∙_}
+use mathlib.Core.List.{List, _++_}
+use native.Mathlib.Numerals.{add-one}
+use native.Mathlib.Decide.{decLe}
+use native.Mathlib.Omega.{arith}
+use lib.ListN.{length, getD, length-append}
+use Rattle.laws.specs.Ranges.{fold}
+use Rattle.curves.specs.Pairs.{Pair, horizon, figure, pairOf, ceiling, least}
+use Rattle.closure.specs.Closing.{figureLimit, question4}
+use Rattle.csv.specs.Text.{Bytes, header, crlf}
+use Rattle.csv.specs.Numbers.{decimal}
+use Rattle.csv.proofs.Numbers.{decimal-step, decimal-few}
+use Rattle.rendering.specs.Rendering.{line, textOf, longest}
+use Rattle.rendering.specs.Steps.{lineLength}
+
+-- ---- question 4 by the entries of the lists
+abbrev pub Within : List ℕ → List ℕ → ℕ → Type 0
+Within us ls i = (getD us i 0 ≤ figureLimit) × (getD ls i 0 ≤ figureLimit)
+
+pub entries-within : (us ls : List ℕ) → ((i : ℕ) → i < length us → Within us ls i) → question4 (pairOf us ls) .asked
+unfolding figure
+entries-within us ls h zero p q = absurd (omega arith)
+entries-within us ls h (suc d) p q = h d q
+
+pub entry-above : (us ls : List ℕ) (i : ℕ) → i < length us → ¬ Within us ls i → ¬ question4 (pairOf us ls) .asked
+unfolding figure
+entry-above us ls i l n q = n (q (suc i) (omega arith) l)
+
+-- ---- numbers
+-- The tenth has one digit fewer.
+pub tenth-shorter : (n : ℕ) → 10 ≤ n → length (decimal n) ≡ length (decimal (n / 10)) + 1
+tenth-shorter n h = ap length (decimal-step n h) ∙ length-append (decimal (n / 10)) _
+
+-- The digits of a window, of at most 256 ticks: one, and one more from 10 on, and from 100 on.
+window-digits : (d : ℕ) → d ≤ 256 → length (decimal d) + (d - 10) + (d - 100) ≤ 1 + (d - 9) + (d - 99)
+window-digits d h =
+    elim (decLe 100 d) [
+      | yes g ↦ omega (arith, decimal-few d 3 (omega arith) (omega arith))
+      | no g ↦
+          elim (decLe 10 d) [
+            | yes f ↦ omega (arith, decimal-few d 2 (omega arith) (omega arith))
+            | no f ↦ omega (arith, decimal-few d 1 (omega arith) (omega arith))
+          ]
+    ]
+
+line-length : (w l m : ℕ) → length (line w l m) ≡ lineLength w l m
+unfolding line
+line-length w l m = simp length-append (omega arith)
+
+-- ---- the text of a pair, up to the window k
+abbrev pub textTo : Pair → ℕ → Bytes
+textTo p k = fold _++_ (header ++ crlf) (λ d. line d (least p d) (ceiling p d)) k
+
+module _ (p : Pair) where
+  -- The record after the first i windows.
+  abbrev next : ℕ → Bytes
+  next i = line (i + 1) (getD (p .lower) i 0) (getD (p .upper) i 0)
+
+  text-header : textTo p 0 ≡ header ++ crlf
+  unfolding fold
+  text-header = refl
+
+  pub text-next : (i : ℕ) → textTo p (i + 1) ≡ textTo p i ++ next i
+  unfolding fold figure
+  text-next i = rw add-one
+
+  pub text-whole : (k : ℕ) → k ≡ horizon p → textOf p ≡ textTo p k
+  unfolding textOf
+  text-whole k e = ap (textTo p) (sym e)
+
+  module _ (h : horizon p ≤ 256) (q : question4 p .asked) where
+    -- A record has 20 bytes and those of its window, at most.
+    record-short : (i : ℕ) → i < horizon p → length (next i) + (i - 9) + (i - 99) ≤ 21 + (i + 1 - 9) + (i + 1 - 99)
+    unfolding figure
+    record-short i l =
+        let within = q (suc i) (omega arith) l in
+        omega (
+          arith,
+          line-length (i + 1) (getD (p .lower) i 0) (getD (p .upper) i 0),
+          window-digits (i + 1) (omega arith),
+          decimal-few (getD (p .lower) i 0) 8 (omega arith) (omega (arith, within .1)),
+          decimal-few (getD (p .upper) i 0) 8 (omega arith) (omega (arith, within .0)),
+        )
+
+    text-short : (k : ℕ) → k ≤ horizon p → length (textTo p k) ≤ 19 + 21 * k + (k - 9) + (k - 99)
+    text-short zero l = rw text-header (omega arith)
+    text-short (suc k) l =
+        rw (← add-one k, text-next k, length-append) (omega (arith, record-short k l, text-short k (omega arith)))
+
+    -- The text fits, and before its end there is room for the next record.
+    pub text-within : (k : ℕ) → k ≤ horizon p → length (textTo p k) ≤ longest
+    text-within k l = omega (arith, text-short k l)
+
+    pub next-fits : (i : ℕ) → i < horizon p
+        → length (textTo p i) + lineLength (i + 1) (getD (p .lower) i 0) (getD (p .upper) i 0) ≤ longest
+    next-fits i l =
+        omega (
+          arith,
+          line-length (i + 1) (getD (p .lower) i 0) (getD (p .upper) i 0),
+          record-short i l,
+          text-short i (omega arith),
+        )

@@ -1,0 +1,50 @@
+-- Rendering a pair as constraint text: every window in order, in the layout that reading takes (document 01, "The figures program").
+use Prim.Native.Nat.{ℕ, _-_}
+use mathlib.Core.List.{List, [], _∷_, _++_}
+use lib.ListN.{length, replicate}
+use Rattle.laws.specs.Ranges.{fold}
+use Rattle.curves.specs.Pairs.{Pair, horizon, ceiling, least}
+use Rattle.curves.specs.Questions.{Question, answerTo}
+use Rattle.closure.specs.Closing.{question1, question2, question4}
+use Rattle.csv.specs.Text.{Bytes, comma, crlf, header}
+use Rattle.csv.specs.Numbers.{decimal}
+
+-- A record with what ends it: the window, its least, its most.
+unfoldable pub line : ℕ → ℕ → ℕ → Bytes
+line w l m = decimal w ++ (comma ∷ []) ++ decimal l ++ (comma ∷ []) ++ decimal m ++ crlf
+
+-- The text of a pair: the header line, and a record for each window 1 to H.
+unfoldable pub textOf : Pair → Bytes
+textOf p = fold _++_ (header ++ crlf) (λ d. line d (least p d) (ceiling p d)) (horizon p)
+
+-- ---- the answer
+-- The longest text: that of 256 windows with figures of 8 digits.
+abbrev pub longest : ℕ
+longest = 5_799
+
+-- A text at the beginning of as many bytes, the others 0.
+abbrev pub padded : Bytes → Bytes
+padded t = t ++ replicate (longest - length t) 0
+
+-- What rendering answers.
+pub record Answer : Type 0 where
+  -- The number of the refusal; 0 where there is none.
+  pub number : ℕ
+  -- How many bytes the text has, and the text, padded.
+  pub length : ℕ
+  pub bytes : Bytes
+
+-- A refusal: its number, nothing else.
+abbrev pub refused : ℕ → Answer
+refused n = record { number = n; length = 0; bytes = padded [] }
+
+-- A text.
+abbrev pub written : Bytes → Answer
+written t = record { number = 0; length = length t; bytes = padded t }
+
+-- Rendering the pair p: questions 1, 2 and 4, as for every operation on a pair, and then its text.
+abbrev pub questions : Pair → List Question
+questions p = question1 p ∷ question2 p ∷ question4 p ∷ []
+
+unfoldable pub rendering : Pair → Answer
+rendering p = answerTo (questions p) (λ _. written (textOf p)) refused

@@ -1,0 +1,119 @@
+// Rendering a pair of arrival curves as constraint text: the header line, then a record for every window.
+
+mod write;
+
+ghost use mathlib.Core.Path.{_≡_};
+ghost use mathlib.Core.List.{[]};
+ghost use Prim.Native.Nat.{_≤_};
+ghost use lib.ListN.{length};
+ghost use Rattle.laws.specs.Writing.{Wrote};
+ghost use Rattle.laws.specs.Tests.{Tells};
+ghost use Rattle.curves.specs.Pairs.{pairOf};
+ghost use Rattle.closure.specs.Closing.{question1, question2, question4};
+ghost use Rattle.rendering.specs.Rendering.{longest, padded, textOf, rendering};
+ghost use Rattle.rendering.specs.Answers.{answer};
+
+// The longest horizon, the largest figure of a pair, and the longest text.
+const MAX_HORIZON: usize = 256;
+
+const FIGURE_LIMIT: u32 = 16_776_960;
+
+const LONGEST: usize = 5_799;
+
+// What rendering answers: the text is written, or document 01's question is answered no.
+pub enum Rendering {
+    Written,
+    // 1: the ceiling list is not 1 to 256 long.
+    UpperLength,
+    // 2: the least list has another length.
+    LowerLength,
+    // 4: a figure is above 16,776,960.
+    FigureLimit,
+}
+
+// The text is the first `length` bytes; the others, and on a refusal all, are 0.
+pub struct Rendered {
+    pub answer: Rendering,
+    pub length: usize,
+    pub bytes: [u8; LONGEST],
+}
+
+// The text of the pair of `ceilings` and `leasts`, entry 0 for the window of one tick.
+pub fn render(ceilings: &[u32], leasts: &[u32]) -> Rendered
+    ensures { λ r. ⌜ answer r ≡ rendering (pairOf (now (ceilings .entry)) (now (leasts .entry))) ⌝ }
+{
+    let h = ceilings.len();
+    if h < 1 {
+        return refused(Rendering::UpperLength);
+    }
+    if MAX_HORIZON < h {
+        return refused(Rendering::UpperLength);
+    }
+    if leasts.len() != h {
+        return refused(Rendering::LowerLength);
+    }
+    if !within_limit(ceilings, leasts) {
+        return refused(Rendering::FigureLimit);
+    }
+    let mut bytes = blank();
+    let length = write_pair(ceilings, leasts, &mut bytes);
+    Rendered {
+        answer: Rendering::Written,
+        length,
+        bytes,
+    }
+}
+
+// A refusal: no text.
+fn refused(answer: Rendering) -> Rendered
+    ensures { λ r. ⌜ (r .answer ≡ answer) × (r .length ≡ 0) × (r .bytes ≡ padded []) ⌝ }
+{
+    let bytes = blank();
+    Rendered {
+        answer,
+        length: 0,
+        bytes,
+    }
+}
+
+// Room for the longest text.
+fn blank() -> [u8; LONGEST]
+    ensures { λ r. ⌜ r ≡ padded [] ⌝ }
+{
+    [0; LONGEST]
+}
+
+// Whether every figure of the pair is within the limit.
+fn within_limit(ceilings: &[u32], leasts: &[u32]) -> bool
+    requires { ⌜ length (now leasts) ≡ length (now ceilings) ⌝ }
+    ensures { λ r. ⌜ Tells r (question4 (pairOf (now (ceilings .entry)) (now (leasts .entry))) .asked) ⌝ }
+{
+    let mut i = 0;
+    while i < ceilings.len() {
+        if FIGURE_LIMIT < ceilings[i] {
+            return false;
+        }
+        if FIGURE_LIMIT < leasts[i] {
+            return false;
+        }
+        i += 1;
+    }
+    true
+}
+
+// Writes the header line and then the record of each window; the place after the text comes back.
+fn write_pair(ceilings: &[u32], leasts: &[u32], out: &mut [u8]) -> usize
+    requires { ⌜ question1 (pairOf (now ceilings) (now leasts)) .asked ⌝ }
+    requires { ⌜ question2 (pairOf (now ceilings) (now leasts)) .asked ⌝ }
+    requires { ⌜ question4 (pairOf (now ceilings) (now leasts)) .asked ⌝ }
+    requires { ⌜ longest ≤ length (now out) ⌝ }
+    ensures { λ r. ⌜ Wrote (now (out .entry)) 0 (textOf (pairOf (now (ceilings .entry)) (now (leasts .entry)))) (now (out .exit)) r ⌝ }
+{
+    let mut at = write::bytes(b"window,least,most\r\n", out, 0);
+    let mut i = 0;
+    while i < ceilings.len() {
+        at = write::record(i as u32 + 1, leasts[i], ceilings[i], out, at);
+        i += 1;
+    }
+    at
+}

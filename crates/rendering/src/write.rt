@@ -1,0 +1,56 @@
+// Text put into a list of bytes from a place on. Each function gives back the place after what it wrote.
+
+ghost use Prim.Native.Nat.{_+_, _≤_, _<_};
+ghost use mathlib.Core.List.{[], _∷_};
+ghost use lib.ListN.{length};
+ghost use Rattle.laws.specs.Writing.{Wrote};
+ghost use Rattle.csv.specs.Numbers.{decimal};
+ghost use Rattle.rendering.specs.Rendering.{line};
+ghost use Rattle.rendering.specs.Steps.{lineLength};
+
+// A record: three numbers between commas, ended by CR LF.
+pub(crate) fn record(window: u32, least: u32, most: u32, out: &mut [u8], at: usize) -> usize
+    requires { ⌜ at + lineLength window least most ≤ length (now out) ⌝ }
+    ensures { λ r. ⌜ Wrote (now (out .entry)) at (line window least most) (now (out .exit)) r ⌝ }
+{
+    let after_window = number(window, out, at);
+    let second = bytes(b",", out, after_window);
+    let after_least = number(least, out, second);
+    let third = bytes(b",", out, after_least);
+    let after_most = number(most, out, third);
+    bytes(b"\r\n", out, after_most)
+}
+
+// A number in decimal digits: those of its tenth first.
+fn number(n: u32, out: &mut [u8], at: usize) -> usize
+    requires { ⌜ at + length (decimal n) ≤ length (now out) ⌝ }
+    ensures { λ r. ⌜ Wrote (now (out .entry)) at (decimal n) (now (out .exit)) r ⌝ }
+{
+    if n < 10 {
+        return digit(n, out, at);
+    }
+    let last = number(n / 10, out, at);
+    digit(n % 10, out, last)
+}
+
+// One digit.
+fn digit(n: u32, out: &mut [u8], at: usize) -> usize
+    requires { ⌜ (n < 10) × (at < length (now out)) ⌝ }
+    ensures { λ r. ⌜ Wrote (now (out .entry)) at ((48 + n) ∷ []) (now (out .exit)) r ⌝ }
+{
+    out[at] = b'0' + n as u8;
+    at + 1
+}
+
+// Bytes as they are.
+pub(crate) fn bytes(text: &[u8], out: &mut [u8], at: usize) -> usize
+    requires { ⌜ at + length (now text) ≤ length (now out) ⌝ }
+    ensures { λ r. ⌜ Wrote (now (out .entry)) at (now (text .entry)) (now (out .exit)) r ⌝ }
+{
+    let mut i = 0;
+    while i < text.len() {
+        out[at + i] = text[i];
+        i += 1;
+    }
+    at + i
+}
