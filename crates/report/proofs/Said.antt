@@ -1,0 +1,205 @@
+-- What the output is, from what reading, closing and rendering answer. Assumes nothing.
+use Prim.Native.Nat.{ℕ, zero, suc, _+_, _-_, _≤_}
+use mathlib.Core.Path.{_≡_, refl, sym, ap, _∙_, subst}
+use mathlib.Core.Bool.{Bool, cond}
+use mathlib.Core.List.{List, [], _∷_, _++_}
+use mathlib.Core.Logic.{_⊎_, inl, inr, ⊎-elim}
+use native.Mathlib.Omega.{arith}
+use lib.Dec.{eqb}
+use borrow.Author.Tests.{eq-eqb, ne-eqb}
+use lib.ListN.{length, getD, take, replicate, length-replicate, length-append, List·getD-append}
+use Rattle.laws.specs.Ranges.{fold}
+use Rattle.laws.specs.Tests.{Each}
+use Rattle.laws.proofs.Table.{length-table}
+use Rattle.curves.specs.Streams.{Stream}
+use lib.Seq.{take-append-seam, length-take-le}
+use Rattle.curves.specs.Pairs.{Pair, horizon, ceiling, least}
+use Rattle.curves.specs.Questions.{AllYes, FirstNo, ask}
+use Rattle.curves.proofs.Asked.{no-parts}
+use Rattle.closure.specs.Closing as closure
+use Rattle.closure.specs.Theorems as closing
+use Rattle.closure.proofs.Said as closed
+use Rattle.closure.proofs.Given as given
+use Rattle.closure.proofs.Promised as promised
+use Rattle.csv.specs.Text.{Bytes, crlf, header}
+use Rattle.csv.specs.Numbers.{decimal}
+use Rattle.csv.proofs.Numbers.{decimal-few}
+use Rattle.constraints.specs.Constraints.{Constraint, constraintOf, Keeps}
+use Rattle.constraints.proofs.Named.{in-range, largest-bound}
+use Rattle.constraints.specs.Reading as constraints
+use Rattle.constraints.specs.Theorems.{GivesPair}
+use Rattle.constraints.proofs.Said as read
+use Rattle.constraints.proofs.Streams.{given-passes, keeps-iff-conforms}
+use Rattle.rendering.specs.Rendering as rendering
+use Rattle.rendering.proofs.Said as rendered
+use Rattle.report.specs.declared.Output.{Output}
+use Rattle.report.specs.Report.{refusal, blank, afterRendering, afterClosing, afterReading, output, reported}
+use Rattle.report.specs.Theorems.{pairIn, OutputIs, RefusedIffNoStream, OutputFits}
+
+-- ---- a step's answer
+-- A refusal's number decides, and so does 0.
+pub refuses : (n : ℕ) (x y : Bytes) → 1 ≤ n → cond (eqb n 0) x y ≡ y
+refuses n x y h = ap (λ (b : Bool). cond b x y) (ne-eqb n 0 (λ e. omega (arith, h, e)))
+
+pub goes-on : (n : ℕ) (x y : Bytes) → n ≡ 0 → cond (eqb n 0) x y ≡ x
+goes-on n x y e = ap (λ (b : Bool). cond b x y) (eq-eqb n 0 e)
+
+-- ---- rendering and closing
+-- A pair that passes is written as its text.
+pub rendered-is : (p : Pair) → AllYes (rendering.questions p) → afterRendering (rendering.rendering p) ≡ rendering.textOf p
+rendered-is p ok = ap afterRendering (rendered.written-is p ok) ∙ take-append-seam (rendering.textOf p) _
+
+pub blank-lengths : (length (blank .upper) ≡ closure.maxHorizon) × (length (blank .lower) ≡ closure.maxHorizon)
+unfolding blank
+blank-lengths = (length-replicate {A = ℕ} closure.maxHorizon 0, length-replicate {A = ℕ} closure.maxHorizon 0)
+
+module _ (p : Pair) where
+  passes : AllYes (rendering.questions p) → closing.Passes p blank
+  passes ok =
+      (ok .0, (ok .1 .0, ((omega (arith, ok .0 .1, blank-lengths .0), omega (arith, ok .0 .1, blank-lengths .1)), (ok .1 .1 .0, tt))))
+
+  closed-output : closing.GivesClosure p blank
+      → afterClosing (horizon p) (closure.closing p blank) ≡ rendering.textOf (closing.closureOf p blank)
+  closed-output g =
+      goes-on (closure.closing p blank .number) _ _ g ∙ rendered-is (closing.closureOf p blank) (promised.given-passes p blank g)
+
+  refused-output : closure.closing p blank ≡ closure.refused 5 blank → afterClosing (horizon p) (closure.closing p blank) ≡ refusal 5
+  refused-output e = ap (afterClosing (horizon p)) e
+
+-- ---- reading
+-- The numbers of a record's questions.
+record-number : (earlier : List Constraint) (rs : List Bytes) (n : ℕ) → FirstNo (constraints.recordQuestions earlier rs) n
+    → (7 ≤ n) × (n ≤ 9)
+record-number earlier [] n f = absurd f
+record-number earlier (r ∷ rs) n f =
+    ⊎-elim
+    (λ h. (omega (arith, h .0), omega (arith, h .0)))
+    (λ h. ⊎-elim
+    (λ k. (omega (arith, k .0), omega (arith, k .0)))
+    (λ k. ⊎-elim
+    (λ j. (omega (arith, j .0), omega (arith, j .0)))
+    (λ j. record-number (earlier ++ (constraintOf r ∷ [])) rs n (j .1))
+    (k .1))
+    (h .1))
+    f
+
+module _ (t : Bytes) where
+  -- The lists are long enough for every text, so that 11 is not given.
+  number-within : (n : ℕ) → FirstNo (constraints.questions t blank) n → (6 ≤ n) × (n ≤ 10)
+  number-within n f =
+      ⊎-elim
+      (λ h. (omega (arith, h .0), omega (arith, h .0)))
+      (λ h. ⊎-elim
+      (λ g. let k = record-number [] (constraints.later t) n g in (omega (arith, k .0), omega (arith, k .1)))
+      (λ g. ⊎-elim (λ k. (omega (arith, k .0), omega (arith, k .0))) (λ k. absurd (long-enough (g .0) (k .1))) (g .1))
+      (no-parts (constraints.recordQuestions [] (constraints.later t)) _ n (h .1)))
+      f
+    where
+      long-enough : AllYes (constraints.recordQuestions [] (constraints.later t)) → FirstNo (constraints.question11 t blank ∷ []) n → ⊥
+      long-enough ys no₁₁ =
+          let h = largest-bound (constraints.constraints t) (in-range [] (constraints.later t) ys) in
+          ⊎-elim (λ k. k .1 (omega (arith, h, blank-lengths .0), omega (arith, h, blank-lengths .1))) (λ k. k .1) no₁₁
+
+  unread-output : (n : ℕ) → FirstNo (constraints.questions t blank) n → output t ≡ refusal n
+  unfolding output
+  unread-output n f = ap afterReading (read.refused-is t blank n f) ∙ refuses n _ _ (omega (arith, number-within n f .0))
+
+  module _ (g : GivesPair t blank) where
+    passes-pair : AllYes (rendering.questions (pairIn t))
+    passes-pair = given-passes t blank g
+
+    read-horizon : constraints.reading t blank .horizon ≡ horizon (pairIn t)
+    read-horizon =
+        let e = read.given-is-text-pair t blank g in
+        e .0 ∙ sym (ap horizon (e .1) ∙ length-table _ (constraints.horizonOf t))
+
+    read-output : output t ≡ afterClosing (horizon (pairIn t)) (closure.closing (pairIn t) blank)
+    unfolding output
+    read-output =
+        goes-on (constraints.reading t blank .number) _ _ g
+        ∙ ap (λ h. afterClosing h (closure.closing (pairIn t) blank)) read-horizon
+
+    closes : (closure.closing (pairIn t) blank ≡ closure.refused 5 blank) ⊎ closing.GivesClosure (pairIn t) blank
+    closes = given.else-closed (pairIn t) blank (passes (pairIn t) passes-pair)
+
+-- ---- the statements
+pub output-is : OutputIs
+output-is t =
+    ⊎-elim
+    (λ ys.
+    let g = read.pair-iff-all-yes t blank .1 ys in
+    ⊎-elim
+    (λ e. inr (inl (g, read-output t g ∙ refused-output (pairIn t) e)))
+    (λ c. inl (g, c, read-output t g ∙ closed-output (pairIn t) c))
+    (closes t g))
+    (λ f. inr (inr (f .0, number-within t (f .0) (f .1) .0, number-within t (f .0) (f .1) .1, f .1, unread-output t (f .0) (f .1))))
+    (ask (constraints.questions t blank))
+
+-- A text of curves begins with `w`, a refusal with `r`.
+text-begins : (p : Pair) → getD (rendering.textOf p) 0 0 ≡ 119
+unfolding rendering.textOf fold
+text-begins p = go (horizon p) .1
+  where
+    lines : ℕ → Bytes
+    lines d = rendering.line d (least p d) (ceiling p d)
+
+    go : (n : ℕ) → (1 ≤ length (fold _++_ (header ++ crlf) lines n)) × (getD (fold _++_ (header ++ crlf) lines n) 0 0 ≡ 119)
+    go zero = (omega arith, refl)
+    go (suc n) =
+        let t = fold _++_ (header ++ crlf) lines n in
+        let (some, w) = go n in
+        (omega (arith, length-append t (lines (suc n)), some), List·getD-append t (lines (suc n)) 0 0 some ∙ w)
+
+refusal-begins : (n : ℕ) → getD (refusal n) 0 0 ≡ 114
+unfolding refusal
+refusal-begins n = refl
+
+pub refused-iff-no-stream : RefusedIffNoStream
+refused-iff-no-stream t g = (there, back)
+  where
+    -- Closing the text's pair is refused exactly where no stream keeps the constraints.
+    there : output t ≡ refusal 5 → (s : Stream) → Each (Keeps (s .counts)) (constraints.constraints t) → ⊥
+    there e s ks =
+        ⊎-elim
+        (λ r.
+        given.refused-iff-no-stream (pairIn t) blank (passes (pairIn t) (passes-pair t g)) .0 r s (keeps-iff-conforms t blank g s .0 ks))
+        (λ c. let o = sym (read-output t g ∙ closed-output (pairIn t) c) ∙ e in
+        omega (arith, text-begins (closing.closureOf (pairIn t) blank), ap (λ (x : Bytes). getD x 0 0) o, refusal-begins 5))
+        (closes t g)
+
+    back : ((s : Stream) → Each (Keeps (s .counts)) (constraints.constraints t) → ⊥) → output t ≡ refusal 5
+    back none =
+        read-output t g
+        ∙ refused-output (pairIn t)
+        (given.refused-iff-no-stream (pairIn t) blank (passes (pairIn t) (passes-pair t g)) .1
+        (λ s h. none s (keeps-iff-conforms t blank g s .1 h)))
+
+refusal-length : (n : ℕ) → length (refusal n) ≡ 10 + length (decimal n)
+unfolding refusal
+refusal-length n = omega (arith, length-append (word ++ decimal n) crlf, length-append word (decimal n))
+  where
+    word : Bytes
+    word = 114 ∷ 101 ∷ 102 ∷ 117 ∷ 115 ∷ 101 ∷ 100 ∷ 32 ∷ []
+
+pub output-fits : OutputFits
+output-fits t =
+    ⊎-elim
+    (λ c. subst Fits (sym (c .2)) (rendered.text-fits (closing.closureOf (pairIn t) blank) (promised.given-passes (pairIn t) blank (c .1))))
+    (λ r. ⊎-elim (λ h. subst Fits (sym (h .1)) (short 5 (omega arith))) (λ h. subst Fits (sym (h .4)) (short (h .0) (h .2))) r)
+    (output-is t)
+  where
+    Fits : Bytes → Type 0
+    Fits o = length o ≤ rendering.longest
+
+    short : (n : ℕ) → n ≤ 10 → Fits (refusal n)
+    short n l = omega (arith, refusal-length n, decimal-few n 2 (omega arith) (omega arith))
+
+-- The length that `report` gives back is within its bytes, so that the output can be taken as a part of them.
+module _ (t : Bytes) (o : Output) (e : o ≡ reported (output t)) where
+  pub reported-within : o .length ≤ length (o .bytes)
+  reported-within =
+      let whole = length-append (output t) (replicate {A = ℕ} (rendering.longest - length (output t)) 0) in
+      omega (arith, ap (λ x. x .length) e, ap (λ x. length (x .bytes)) e, whole)
+
+  pub reported-part : o .length ≡ length (take (o .length) (o .bytes))
+  reported-part = sym (length-take-le (o .length) (o .bytes) reported-within)

@@ -1,0 +1,33 @@
+-- `report::report_pair` meets its contract: what follows from what closing answers into blank lists.
+-- Assumes nothing.
+use borrow.Author.Needs.{needs}
+use lib.ListN.{length}
+use Rattle.curves.specs.Pairs.{pairOf}
+use Rattle.closure.specs.Closing.{closing}
+use Rattle.report.specs.Report.{afterClosing, reported}
+use Rattle.report.proofs.Answered.{into-blank}
+use Rattle.report.proofs.report_pair.Statement.{statement}
+use Rattle.report.proofs.report_pair.Tie as tie
+
+returns : tie.Need-returns
+returns c =
+    let k = c .before .before .before .before .before in
+    let z = k .before .before .before in
+    let s = z .before .before .before .before in
+    into-blank (closing (pairOf (s .args .ceilings .now) (s .args .leasts .now)))
+    (λ a. reported (afterClosing (length (s .args .ceilings .now)) a)) _ _ _ _
+    (z .before .zeros .ensures) (z .zeros2 .ensures) (k .close .ensures) (c .report-closing .ensures)
+
+pub report-pair-spec : {M : Type 1} → statement M
+report-pair-spec =
+    tie.close
+    (tie.spec
+    (λ c κs. search needs)
+    (λ c κs. search needs)
+    (λ c. search needs)
+    (λ c. search needs)
+    (λ c κs. search needs)
+    (λ c. search needs)
+    (λ c. search needs)
+    (λ c κs. search needs)
+    returns)

@@ -1,0 +1,38 @@
+-- What is proved of the program's output, from what `output` says alone.
+use Prim.Native.Nat.{ℕ, _≤_}
+use mathlib.Core.Path.{_≡_}
+use mathlib.Core.Logic.{_↔_, _⊎_}
+use lib.ListN.{length}
+use Rattle.laws.specs.Tests.{Each}
+use Rattle.curves.specs.Streams.{Stream}
+use Rattle.curves.specs.Pairs.{Pair}
+use Rattle.curves.specs.Questions.{FirstNo}
+use Rattle.closure.specs.Theorems.{GivesClosure, closureOf}
+use Rattle.csv.specs.Text.{Bytes}
+use Rattle.constraints.specs.Constraints.{Keeps}
+use Rattle.constraints.specs.Reading.{constraints, questions}
+use Rattle.constraints.specs.Theorems.{GivesPair, givenPair}
+use Rattle.rendering.specs.Rendering.{longest, textOf}
+use Rattle.report.specs.Report.{refusal, blank, output}
+
+-- The pair that reading the text gives.
+abbrev pub pairIn : Bytes → Pair
+pairIn t = givenPair t blank
+
+-- The output is the closed curves of the text's pair; or a refusal with 5 of a text that reads well; or with 6 to 10, by reading's
+-- questions. Any other refusal is not given.
+abbrev pub OutputIs : Type 0
+OutputIs =
+    (t : Bytes)
+    → (GivesPair t blank × GivesClosure (pairIn t) blank × (output t ≡ textOf (closureOf (pairIn t) blank)))
+    ⊎ (GivesPair t blank × (output t ≡ refusal 5))
+    ⊎ ((n : ℕ) × (6 ≤ n) × (n ≤ 10) × FirstNo (questions t blank) n × (output t ≡ refusal n))
+
+-- 5 exactly where no unbounded stream keeps the constraints of the text.
+abbrev pub RefusedIffNoStream : Type 0
+RefusedIffNoStream =
+    (t : Bytes) → GivesPair t blank → (output t ≡ refusal 5) ↔ ((s : Stream) → Each (Keeps (s .counts)) (constraints t) → ⊥)
+
+-- The output fits into what `report` gives back.
+abbrev pub OutputFits : Type 0
+OutputFits = (t : Bytes) → length (output t) ≤ longest
