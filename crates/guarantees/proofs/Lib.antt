@@ -1,2 +1,3 @@
 -- What the customer was promised, proved. Assumes nothing.
 pub mod Marked
+pub mod ReadBack

@@ -1,12 +1,20 @@
 -- Document 01's marked figures ("Figures to try"): one list of cases.
 use Prim.Native.Nat.{ℕ, _≤_}
 use mathlib.Core.Path.{_≡_}
-use mathlib.Core.List.{List, [], _∷_}
+use mathlib.Core.List.{List, [], _∷_, _++_}
 use lib.ListN.{length}
-use Rattle.curves.specs.Pairs.{Pair, pairOf, horizon}
+use Rattle.curves.specs.Pairs.{Pair, pairOf, horizon, Equal}
 use Rattle.closure.specs.Closing.{refused, closed, closing}
+use Rattle.csv.specs.Text.{Bytes, comma, crlf, header}
+use Rattle.constraints.specs.Theorems.{GivesPair, givenPair}
+
+-- `3,0,3` and `5,5,9` below the header line.
+unfoldable pub publishedTriples : Bytes
+publishedTriples = header ++ crlf ++ (51 ∷ comma ∷ 48 ∷ comma ∷ 51 ∷ []) ++ crlf ++ (53 ∷ comma ∷ 53 ∷ comma ∷ 57 ∷ []) ++ crlf
 
 pub data Case : Type 0 where
+  -- Reading the text gives this pair.
+  reads : Bytes → Pair → Case
   -- Closing the pair gives this closure after so many rounds.
   closes : Pair → ℕ → Pair → Case
   -- Closing the pair is refused with 5.
@@ -14,6 +22,8 @@ pub data Case : Type 0 where
 
 -- What a case says, whatever result lists of at least H entries hold.
 abbrev pub Holds : Case → Type 0
+Holds (reads t q) =
+    (found : Pair) → horizon q ≤ length (found .upper) → horizon q ≤ length (found .lower) → GivesPair t found × Equal (givenPair t found) q
 Holds (closes p n q) =
     (found : Pair) → horizon p ≤ length (found .upper) → horizon p ≤ length (found .lower) → closing p found ≡ closed n q found
 Holds (refuses p) =
@@ -32,6 +42,7 @@ marked =
     ∷ closes (pairOf (1 ∷ 2 ∷ []) (0 ∷ 2 ∷ [])) 1 (pairOf (1 ∷ 2 ∷ []) (1 ∷ 2 ∷ []))
     ∷ refuses (pairOf (2 ∷ 2 ∷ 5 ∷ []) (0 ∷ 0 ∷ 4 ∷ []))
     ∷ closes (pairOf (2 ∷ 3 ∷ 5 ∷ 5 ∷ []) (0 ∷ 0 ∷ 0 ∷ 3 ∷ [])) 1 (pairOf (2 ∷ 3 ∷ 5 ∷ 5 ∷ []) (0 ∷ 0 ∷ 1 ∷ 3 ∷ []))
+    ∷ reads publishedTriples (pairOf (3 ∷ 6 ∷ 3 ∷ 12 ∷ 9 ∷ []) (0 ∷ 0 ∷ 0 ∷ 0 ∷ 5 ∷ []))
     ∷ closes (pairOf (3 ∷ 6 ∷ 3 ∷ 12 ∷ 9 ∷ []) (0 ∷ 0 ∷ 0 ∷ 0 ∷ 5 ∷ [])) 4 (pairOf (1 ∷ 2 ∷ 3 ∷ 4 ∷ 5 ∷ []) (1 ∷ 2 ∷ 3 ∷ 4 ∷ 5 ∷ []))
     ∷ []
 
