@@ -34,15 +34,15 @@ entry-above us ls i l n q = n (q (suc i) (omega arith) l)
 pub tenth-shorter : (n : ℕ) → 10 ≤ n → length (decimal n) ≡ length (decimal (n / 10)) + 1
 tenth-shorter n h = ap length (decimal-step n h) ∙ length-append (decimal (n / 10)) _
 
--- The digits of a window, of at most 256 ticks: one, and one more from 10 on, and from 100 on.
-window-digits : (d : ℕ) → d ≤ 256 → length (decimal d) + (d - 10) + (d - 100) ≤ 1 + (d - 9) + (d - 99)
-window-digits d h =
+-- The digits of a number up to a window d of at most 256 ticks: one, and one more from 10 on, and from 100 on.
+window-digits : (w d : ℕ) → w ≤ d → d ≤ 256 → length (decimal w) + (d - 10) + (d - 100) ≤ 1 + (d - 9) + (d - 99)
+window-digits w d l h =
     elim (decLe 100 d) [
-      | yes g ↦ omega (arith, decimal-few d 3 (omega arith) (omega arith))
+      | yes g ↦ omega (arith, decimal-few w 3 (omega arith) (omega arith))
       | no g ↦
           elim (decLe 10 d) [
-            | yes f ↦ omega (arith, decimal-few d 2 (omega arith) (omega arith))
-            | no f ↦ omega (arith, decimal-few d 1 (omega arith) (omega arith))
+            | yes f ↦ omega (arith, decimal-few w 2 (omega arith) (omega arith))
+            | no f ↦ omega (arith, decimal-few w 1 (omega arith) (omega arith))
           ]
     ]
 
@@ -72,34 +72,33 @@ module _ (p : Pair) where
   text-whole k e = ap (textTo p) (sym e)
 
   module _ (h : horizon p ≤ 256) (q : question4 p .asked) where
-    -- A record has 20 bytes and those of its window, at most.
-    record-short : (i : ℕ) → i < horizon p → length (next i) + (i - 9) + (i - 99) ≤ 21 + (i + 1 - 9) + (i + 1 - 99)
-    unfolding figure
-    record-short i l =
-        let within = q (suc i) (omega arith) l in
+    -- A record with a number up to the window and two figures within the limit has 20 bytes and those of the window, at most.
+    record-short : (i w a b : ℕ) → i < horizon p → w ≤ i + 1 → a ≤ figureLimit → b ≤ figureLimit
+        → lineLength w a b + (i - 9) + (i - 99) ≤ 21 + (i + 1 - 9) + (i + 1 - 99)
+    record-short i w a b l g u v =
         omega (
           arith,
-          line-length (i + 1) (getD (p .lower) i 0) (getD (p .upper) i 0),
-          window-digits (i + 1) (omega arith),
-          decimal-few (getD (p .lower) i 0) 8 (omega arith) (omega (arith, within .1)),
-          decimal-few (getD (p .upper) i 0) 8 (omega arith) (omega (arith, within .0)),
+          window-digits w (i + 1) g (omega arith),
+          decimal-few a 8 (omega arith) (omega (arith, u)),
+          decimal-few b 8 (omega arith) (omega (arith, v)),
         )
+
+    -- The figures of the window after the first i.
+    pub next-within : (i : ℕ) → i < horizon p → Within (p .upper) (p .lower) i
+    unfolding figure
+    next-within i l = q (suc i) (omega arith) l
 
     text-short : (k : ℕ) → k ≤ horizon p → length (textTo p k) ≤ 19 + 21 * k + (k - 9) + (k - 99)
     text-short zero l = rw text-header (omega arith)
     text-short (suc k) l =
-        rw (← add-one k, text-next k, length-append) (omega (arith, record-short k l, text-short k (omega arith)))
+        let (u, v) = next-within k l in
+        rw (← add-one k, text-next k, length-append, line-length)
+        (omega (arith, record-short k (k + 1) _ _ l (omega arith) v u, text-short k (omega arith)))
 
     -- The text fits, and before its end there is room for the next record.
     pub text-within : (k : ℕ) → k ≤ horizon p → length (textTo p k) ≤ longest
     text-within k l = omega (arith, text-short k l)
 
-    pub next-fits : (i : ℕ) → i < horizon p
-        → length (textTo p i) + lineLength (i + 1) (getD (p .lower) i 0) (getD (p .upper) i 0) ≤ longest
-    next-fits i l =
-        omega (
-          arith,
-          line-length (i + 1) (getD (p .lower) i 0) (getD (p .upper) i 0),
-          record-short i l,
-          text-short i (omega arith),
-        )
+    pub next-fits : (i w a b at n : ℕ) → i < horizon p → w ≤ i + 1 → a ≤ figureLimit → b ≤ figureLimit
+        → at ≡ 0 + length (textTo p i) → longest ≤ n → at + lineLength w a b ≤ n
+    next-fits i w a b at n l g u v e r = omega (arith, record-short i w a b l g u v, text-short i (omega arith), e, r)

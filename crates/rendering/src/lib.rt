@@ -110,10 +110,10 @@ fn write_pair(ceilings: &[u32], leasts: &[u32], out: &mut [u8]) -> usize
     ensures { λ r. ⌜ Wrote (now (out .entry)) 0 (textOf (pairOf (now (ceilings .entry)) (now (leasts .entry)))) (now (out .exit)) r ⌝ }
 {
     let mut at = write::bytes(b"window,least,most\r\n", out, 0);
-    let mut i = 0;
-    while i < ceilings.len() {
-        at = write::record(i as u32 + 1, leasts[i], ceilings[i], out, at);
-        i += 1;
+    let mut n = 0;
+    while n < ceilings.len() {
+        at = write::record(n as u32 + 1, leasts[n], ceilings[n], out, at);
+        n += 1;
     }
     at
 }

@@ -1,4 +1,4 @@
--- `rendering::write_pair` meets its contract: before a turn the text up to the window i is written.
+-- `rendering::write_pair` meets its contract: before a turn the text of n windows is written.
 -- Assumes nothing.
 use Prim.Native.Nat.{_-_, _≤_}
 use mathlib.Core.Path.{_≡_}
@@ -10,18 +10,18 @@ use Rattle.curves.specs.Pairs.{Pair, pairOf}
 use Rattle.csv.specs.Text.{Bytes}
 use Rattle.laws.specs.Writing.{Wrote}
 use Rattle.laws.proofs.Writing.{wrote-more}
-use Rattle.rendering.proofs.Laws.{textTo, text-next, text-whole, next-fits}
+use Rattle.rendering.proofs.Laws.{textTo, text-next, text-whole, next-within, next-fits}
 use Rattle.rendering.proofs.write_pair.Statement.{statement}
 use Rattle.rendering.proofs.write_pair.Tie as tie
 
 abbrev Inv-loop : tie.InvT-loop
-Inv-loop ceilings leasts out₀ at₀ i₀ out at i =
-    (i ≤ length ceilings) × (length out ≡ length out₀)
+Inv-loop ceilings leasts out₀ at₀ n₀ out at n =
+    (n ≤ length ceilings) × (length out ≡ length out₀)
     × ((found : Bytes) → Wrote found 0 (textTo (pairOf ceilings leasts) 0) out₀ at₀
-    → Wrote found 0 (textTo (pairOf ceilings leasts) i) out at)
+    → Wrote found 0 (textTo (pairOf ceilings leasts) n) out at)
 
 abbrev μ-loop : tie.MeasureT-loop
-μ-loop ceilings leasts out₀ at₀ i₀ out at i = length ceilings - i
+μ-loop ceilings leasts out₀ at₀ n₀ out at n = length ceilings - n
 
 loop-holds : tie.Need-loop-holds Inv-loop μ-loop
 loop-holds c = (search needs, search needs, λ found w. w)
@@ -34,23 +34,27 @@ abbrev pair : tie.At-loop Inv-loop μ-loop → Pair
 pair k = pairOf (start k .args .ceilings .now) (start k .args .leasts .now)
 
 so-far
-    : (k : tie.At-loop Inv-loop μ-loop) → Wrote (start k .args .out .now) 0 (textTo (pair k) (k .loop .i)) (k .loop .out) (k .loop .at)
+    : (k : tie.At-loop Inv-loop μ-loop) → Wrote (start k .args .out .now) 0 (textTo (pair k) (k .loop .n)) (k .loop .out) (k .loop .at)
 unfolding fold
 so-far k = k .loop .inv .2 _ (k .before .before .before .bytes .ensures)
 
 record-requires : tie.Need-record-requires Inv-loop μ-loop
 record-requires c κs =
     let k = c .before .before .before .before in
-    omega (arith, so-far k .place, next-fits (pair k) (omega arith) (start k .pre .1 .1 .0) (k .loop .i) (omega arith))
+    let short = start k .pre .0 .1 in
+    let figures = start k .pre .1 .1 .0 in
+    let (u, v) = next-within (pair k) short figures (k .loop .n) (omega arith) in
+    next-fits (pair k) short figures (k .loop .n) _ _ _ _ _ (omega arith) (omega arith)
+    (omega (arith, u, v)) (omega (arith, u, v)) (so-far k .place) (omega arith)
 
 loop-again : tie.Need-loop-again Inv-loop μ-loop
 loop-again c =
     let k = c .before .before .before .before .before .before .before in
-    let written = c .before .before .«record» .ensures in
-    (search needs, search needs, λ found w. rw (text-next (pair k)) (wrote-more (k .loop .inv .2 found w) written))
+    let next = c .before .before .«record» .ensures in
+    (search needs, search needs, λ found w. rw (text-next (pair k)) (wrote-more (k .loop .inv .2 found w) next))
 
 returns : tie.Need-returns Inv-loop μ-loop
-returns c = rw (text-whole (pair (c .before)) (c .before .loop .i) (omega arith)) (so-far (c .before))
+returns c = rw (text-whole (pair (c .before)) (c .before .loop .n) (omega arith)) (so-far (c .before))
 
 pub write-pair-spec : {M : Type 1} → statement M
 write-pair-spec =
