@@ -40,6 +40,7 @@ fn read_input(fd: i32, text: &mut [u8]) -> Input
     Input::Bytes(n)
 }
 
+// Writes the output for a text.
 fn write_report(text: &[u8]) {
     let report = report::report(text);
     let n = report.length;
