@@ -40,8 +40,9 @@ pub enum Reading {
     ResultLength,
 }
 
-// What is wrong with the first faulty record.
+// What is wrong with the first faulty record: its form, a figure's range, or that its window was named before.
 enum Fault {
+    // No record is faulty.
     Sound,
     Form,
     Range,
