@@ -1,9 +1,17 @@
--- The definitions compute: filling a set of constraints up to a horizon. Assumes nothing.
+-- The definitions compute: filling a set of constraints up to a horizon, and which record's fault decides. Assumes nothing.
 use Prim.Native.Nat.{ℕ}
 use mathlib.Core.Path.{_≡_, refl}
-use mathlib.Core.List.{[], _∷_}
+use mathlib.Core.List.{[], _∷_, _++_}
+use mathlib.Core.Logic.{⊎-map, Dec·and, Dec·not}
+use native.Mathlib.Decide.{decLe, ℕ-discrete}
 use Rattle.laws.specs.Ranges.{table}
-use Rattle.curves.specs.Pairs.{pairOf}
+use Rattle.laws.proofs.Tests.{each?, equal-lists?}
+use Rattle.curves.specs.Pairs.{Pair, pairOf}
+use Rattle.curves.specs.Questions.{ask}
+use Rattle.csv.specs.Text.{Bytes, comma, crlf, header, records, fields}
+use Rattle.csv.specs.Numbers.{valueAfter}
+use Rattle.constraints.specs.Decisions.{digit?, numeral?, wellFormed?, inRange?}
+use Rattle.constraints.specs.Reading.{refused, reading}
 use Rattle.constraints.specs.Constraints.{Constraint, named, filled}
 
 triple : ℕ → ℕ → ℕ → Constraint
@@ -18,3 +26,15 @@ published = refl
 longer : filled 6 (triple 3 0 3 ∷ triple 5 5 9 ∷ []) ≡ pairOf (3 ∷ 6 ∷ 3 ∷ 12 ∷ 9 ∷ 18 ∷ []) (0 ∷ 0 ∷ 0 ∷ 0 ∷ 5 ∷ 0 ∷ [])
 unfolding named table triple
 longer = refl
+
+-- The first faulty record decides, not the last: a window named twice in record 2 gives 9, although record 3, `x`, has no form.
+faults : Bytes
+faults = header ++ crlf ++ row ++ crlf ++ row ++ crlf ++ (120 ∷ [])
+  where
+    row : Bytes
+    row = 51 ∷ comma ∷ 48 ∷ comma ∷ 51 ∷ []
+
+first-decides : (found : Pair) → reading faults found ≡ refused 9 found
+unfolding reading faults ask ⊎-map records fields valueAfter each? digit? numeral? wellFormed? inRange? decLe ℕ-discrete Dec·and Dec·not
+    equal-lists?
+first-decides found = refl
