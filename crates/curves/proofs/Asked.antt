@@ -5,7 +5,7 @@ use mathlib.Core.Path.{_≡_, sym, ap, _∙_, subst}
 use mathlib.Core.List.{List, [], _∷_, _++_}
 use mathlib.Core.Logic.{_↔_, _⊎_, inl, inr, ⊎-elim}
 use native.Mathlib.Omega.{arith}
-use Rattle.curves.specs.Questions.{Question, AllYes, FirstNo, ask, answerTo}
+use Rattle.curves.specs.Questions.{Question, AllYes, FirstNo, ask, answerTo, Reply, result, refusal, replyTo}
 
 pub not-both : (qs : List Question) (n : ℕ) → AllYes qs → FirstNo qs n → ⊥
 not-both [] n ys f = f
@@ -96,3 +96,41 @@ module _ {ℓ} {A : Type ℓ} (qs : List Question) (y : AllYes qs → A) (n : �
           there : number (answerTo qs y n) ≡ 0 → AllYes qs
           there e =
               ⊎-elim (λ ys. ys) (λ r. absurd (omega (arith, positive qs h (r .0) (r .1), number-no (r .0) (r .1), e))) (ask qs)
+
+-- ---- a reply: a result, or a refusal
+module _ {A : Type 0} where
+  abbrev numberOf : Reply A → ℕ
+  numberOf (result a) = 0
+  numberOf (refusal n) = n
+
+  abbrev kindOf : Reply A → ℕ
+  kindOf (result a) = 0
+  kindOf (refusal n) = 1
+
+  abbrev resultOr : A → Reply A → A
+  resultOr z (result a) = a
+  resultOr z (refusal n) = z
+
+  pub no-refusal : (a : A) (n : ℕ) → ¬ (result a ≡ refusal n)
+  no-refusal a n e = let k : _≡_ {A = ℕ} 0 1 = ap kindOf e in omega arith
+
+  pub same-result : (a b : A) → result a ≡ result b → a ≡ b
+  same-result a b e = ap (resultOr a) e
+
+  module _ (qs : List Question) (y : AllYes qs → A) where
+    -- Refused with n exactly when question n is the first that is answered no.
+    pub refusal-iff : (n : ℕ) → (replyTo qs y ≡ refusal n) ↔ FirstNo qs n
+    refusal-iff n = (go (ask qs), said-no qs (λ ys. result (y ys)) refusal n)
+      where
+        go : (v : AllYes qs ⊎ ((m : ℕ) × FirstNo qs m)) → ⊎-elim (λ ys. result (y ys)) (λ r. refusal (r .0)) v ≡ refusal n → FirstNo qs n
+        go (inl ys) e = absurd (no-refusal (y ys) n e)
+        go (inr r) e = subst (FirstNo qs) (ap numberOf e) (r .1)
+
+    -- A result is made of yeses.
+    pub result-from : (a : A) → replyTo qs y ≡ result a → (ys : AllYes qs) × (y ys ≡ a)
+    result-from a = go (ask qs)
+      where
+        go : (v : AllYes qs ⊎ ((m : ℕ) × FirstNo qs m)) → ⊎-elim (λ ys. result (y ys)) (λ r. refusal (r .0)) v ≡ result a
+            → (ys : AllYes qs) × (y ys ≡ a)
+        go (inl ys) e = (ys, same-result (y ys) a e)
+        go (inr r) e = absurd (no-refusal a (r .0) (sym e))

@@ -9,6 +9,7 @@ use lib.IntN.{pos}
 use Rattle.curves.specs.Streams.{sum, Begins}
 use Rattle.curves.specs.Pairs.{horizon, Pair, ceiling, least, Equal}
 use Rattle.curves.specs.Conformance.{Conforms, Conforms∞}
+use Rattle.curves.specs.Ticks.{then, Range}
 use Rattle.curves.specs.Rounds.{whole, given, after, Arrives}
 use Rattle.curves.specs.Theorems.{ClosureIsCausal, CausalIffOwnClosure, CausalTakesNoRound, OneMoreTick}
 use Rattle.curves.proofs.Figures.{given-full, same-refl, full-same, after-full, given-same, given-horizon, after-horizon}
@@ -17,7 +18,7 @@ use Rattle.curves.proofs.Arrival.{runs-none}
 use Rattle.curves.proofs.Closed.{Closed, closed}
 use Rattle.curves.proofs.Extension.{extends, start-conforms}
 use Rattle.curves.proofs.Followed.{Follows, follows-upper, follows-lower}
-use Rattle.curves.proofs.NextTick.{lo, hi, keeps-conforms, conforms-keeps, keeps-range, lo-hi}
+use Rattle.curves.proofs.NextTick.{conforms-keeps, keeps-conforms, range-whole, goes-on}
 
 -- ---- the closure is causal
 pub closure-is-causal : ClosureIsCausal
@@ -36,13 +37,11 @@ causal-iff-own-closure p = ((λ c. (0, causal-takes-no-round p c)), (λ a. closu
 -- ---- one more tick
 pub one-more-tick : OneMoreTick
 one-more-tick p xs h c k =
-    let C : Closed p = closed p c in (
-      lo p xs,
-      hi p xs,
-      lo-hi p C xs k h,
+    let r : Range p xs = goes-on p (closed p c) xs k h in (
+      r,
       λ x. (
-        (λ m. keeps-range p C xs k x h .0 (conforms-keeps p xs x m)),
-        (λ r. keeps-conforms p xs x k (keeps-range p C xs k x h .1 r)),
+        (λ m. range-whole p xs r x .0 (conforms-keeps p (then xs x) m)),
+        (λ m. keeps-conforms p xs x k (range-whole p xs r x .1 m)),
       ),
     )
 

@@ -1,11 +1,15 @@
 -- The definitions of specs/ at small examples: each holds by computation. Assumes nothing.
 use mathlib.Core.Path.{_≡_, refl}
 use mathlib.Core.List.{[], _∷_}
+use mathlib.Core.Logic.{Dec·and}
+use native.Mathlib.Decide.{decLe, decLt}
 use lib.IntN.{pos, negsuc}
 use Rattle.laws.specs.Ranges.{fold, table}
 use Rattle.curves.specs.Streams.{sum, countsOf}
 use Rattle.curves.specs.Pairs.{Pair, pairOf, figure, ceiling, slack}
+use Rattle.curves.specs.Ticks.{newest, passed, tooMany, tooFew}
 use Rattle.curves.specs.Rounds.{whole, cutOff, newFigure, round, given, after}
+use Rattle.curves.proofs.Verdicts.{inside?, judged?, find, turned-down, verdict?}
 
 -- The pair of the published triples, and one whose first round has a negative ceiling.
 abbrev published : Pair
@@ -46,3 +50,31 @@ published-first = refl
 published-closed : after whole 4 published ≡ given whole (pairOf (1 ∷ 2 ∷ 3 ∷ 4 ∷ 5 ∷ []) (1 ∷ 2 ∷ 3 ∷ 4 ∷ 5 ∷ []))
 unfolding after given round newFigure fold table figure
 published-closed = refl
+
+-- ---- the newest tick
+newest-two : newest 2 (1 ∷ 2 ∷ 3 ∷ []) ≡ 2 ∷ 3 ∷ []
+newest-two = refl
+
+-- After 0, 2, 1, 0, 2, 0 on the published pair: 2 is too many for three ticks, 1 too few for five.
+three-ticks : verdict? published (0 ∷ 2 ∷ 1 ∷ 0 ∷ 2 ∷ 0 ∷ 2 ∷ []) .0 ≡ tooMany 3
+unfolding verdict? find turned-down inside? judged? decLe decLt Dec·and sum figure
+three-ticks = refl
+
+five-ticks : verdict? published (0 ∷ 2 ∷ 1 ∷ 0 ∷ 2 ∷ 0 ∷ 1 ∷ []) .0 ≡ tooFew 5
+unfolding verdict? find turned-down inside? judged? decLe decLt Dec·and sum figure
+five-ticks = refl
+
+-- A window that would reach before the first tick is not judged.
+too-early : verdict? (pairOf (9 ∷ 9 ∷ []) (0 ∷ 5 ∷ [])) (1 ∷ []) .0 ≡ passed
+unfolding verdict? find turned-down inside? judged? decLe decLt Dec·and sum figure
+too-early = refl
+
+-- The shorter window decides, here with too few before the longer has too many.
+shorter-first : verdict? (pairOf (9 ∷ 3 ∷ []) (2 ∷ 0 ∷ [])) (3 ∷ 1 ∷ []) .0 ≡ tooFew 1
+unfolding verdict? find turned-down inside? judged? decLe decLt Dec·and sum figure
+shorter-first = refl
+
+-- In one window 'too many' is looked at first.
+many-first : verdict? (pairOf (1 ∷ []) (5 ∷ [])) (3 ∷ []) .0 ≡ tooMany 1
+unfolding verdict? find turned-down inside? judged? decLe decLt Dec·and sum figure
+many-first = refl

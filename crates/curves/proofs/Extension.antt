@@ -11,7 +11,7 @@ use Rattle.curves.specs.Pairs.{Pair, horizon}
 use Rattle.curves.specs.Conformance.{Conforms, Conforms∞}
 use Rattle.curves.proofs.Sums.{local}
 use Rattle.curves.proofs.Closed.{Closed}
-use Rattle.curves.proofs.NextTick.{lo, keeps-conforms, keeps-range, lo-hi}
+use Rattle.curves.proofs.NextTick.{lo, keeps-conforms, keeps-range, lo-end}
 
 -- The first counts of a conforming unbounded stream conform.
 pub start-conforms : (p : Pair) (xs : List ℕ) (s : ℕ → ℕ) → Begins xs s → Conforms∞ p s → Conforms p xs
@@ -65,7 +65,7 @@ module _ (p : Pair) (xs : List ℕ) where
     grow-conforms (suc k) =
         let g : List ℕ = grow p xs k in
         let c′ : Conforms p g = grow-conforms k in
-        keeps-conforms p g (lo p g) c′ (keeps-range p C g c′ (lo p g) h .1 (le-refl (lo p g), lo-hi p C g c′ h))
+        keeps-conforms p g (lo p g) c′ (keeps-range p g (lo p g) h .1 (le-refl (lo p g), lo-end p C g c′ h))
 
     goes-on : Conforms∞ p (forever p xs)
     goes-on i d u v =

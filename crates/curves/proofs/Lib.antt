@@ -4,6 +4,7 @@ pub mod Weight
 pub mod Sums
 pub mod Closed
 pub mod NextTick
+pub mod Verdicts
 pub mod Extension
 pub mod Followed
 pub mod Kept

@@ -2,6 +2,7 @@
 pub mod Streams
 pub mod Pairs
 pub mod Conformance
+pub mod Ticks
 pub mod Rounds
 pub mod Questions
 pub mod Theorems

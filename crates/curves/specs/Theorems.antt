@@ -1,10 +1,11 @@
 -- What is proved of pairs, streams and rounds, at any horizon and for any figures. `proofs/` proves exactly these statements.
 use Prim.Native.Nat.{ℕ, _≤_}
 use mathlib.Core.Path.{_≡_}
-use mathlib.Core.List.{List, [], _∷_, _++_}
+use mathlib.Core.List.{List}
 use mathlib.Core.Logic.{_↔_, _⊎_}
 use Rattle.curves.specs.Pairs.{Pair, Equal, horizon, slack}
 use Rattle.curves.specs.Conformance.{Conforms, Conforms∞}
+use Rattle.curves.specs.Ticks.{then, Range}
 use Rattle.curves.specs.Rounds.{whole, cutOff, after, HasAfter, Crossed, Arrives, Crosses, Causal}
 
 -- The rounds of p end with a closure.
@@ -52,9 +53,8 @@ CausalIffOwnClosure = (p : Pair) → Causal p ↔ ((n : ℕ) × Arrives whole p 
 abbrev pub CausalTakesNoRound : Type 0
 CausalTakesNoRound = (p : Pair) → Causal p → Arrives whole p 0 p
 
--- ---- 9. One more tick: a finite stream that conforms to a causal pair can go on with the counts from some lo to some hi, and with no
--- other; there is at least one.
+-- ---- 9. One more tick: a finite stream that conforms to a causal pair has an admissible range, and goes on with the counts of it alone.
 abbrev pub OneMoreTick : Type 0
 OneMoreTick =
     (p : Pair) (xs : List ℕ) → 1 ≤ horizon p → Causal p → Conforms p xs
-    → (lo : ℕ) × (hi : ℕ) × (lo ≤ hi) × ((x : ℕ) → Conforms p (xs ++ (x ∷ [])) ↔ ((lo ≤ x) × (x ≤ hi)))
+    → (r : Range p xs) × ((x : ℕ) → Conforms p (then xs x) ↔ ((r .lo ≤ x) × (x ≤ r .hi)))
