@@ -1,0 +1,266 @@
+-- Laws over plain variables that the proofs about a history cite.
+-- Assumes nothing.
+use Prim.Native.Nat.{ℕ, suc, _+_, _-_, _≤_, _<_, max}
+use mathlib.Core.Path.{_≡_, refl, sym, ap, _∙_, subst, subst⁻¹}
+use mathlib.Core.List.{List, [], _++_}
+use mathlib.Core.Logic.{inl, inr}
+use native.Mathlib.Nat.{le-trans}
+use native.Mathlib.Numerals.{add-one}
+use native.Mathlib.Omega.{arith}
+use lib.ListN.{length, getD, set, take, drop, replicate, length-set, length-drop, length-append}
+use lib.Seq.{length-take-le, take-at, take-suc-set, getD-take, getD-drop, getD-append-add, ext-getD}
+use Rattle.laws.specs.Ranges.{fold, table}
+use Rattle.laws.proofs.Best.{max-best, fold-each, fold-both}
+use Rattle.laws.proofs.Table.{Filled, stored, filled-front, length-table, getD-table, table-self}
+use Rattle.curves.specs.Pairs.{Pair, figure, pairOf, horizon}
+use Rattle.curves.specs.Ticks.{then}
+use Rattle.curves.specs.Questions.{FirstNo, Reply, result, refusal}
+use Rattle.curves.proofs.NextTick.{length-then}
+use Rattle.curves.proofs.Asked.{said-no, said-yes, result-from}
+use Rattle.closure.specs.Closing.{maxHorizon, figureLimit, question1, question2, question4}
+use Rattle.history.specs.declared.History.{History}
+use Rattle.history.specs.declared.Opening.{Opening}
+use Rattle.history.specs.declared.Opening.the-variants.{Opened, UpperLength, LowerLength, FigureLimit}
+use Rattle.history.specs.States.{Past, Legal, pastOf, entries, added}
+use Rattle.history.specs.Opening.{openingQuestions, opening, fresh, blank, Begun}
+use Rattle.history.specs.Answers.{openingReply}
+use Rattle.history.specs.Promises.{Room}
+use Rattle.history.specs.Steps.{BeginsWhere, Fits, paddedTo, moved, pastWith}
+
+-- A figure by its index.
+pub figure-next : (us : List ℕ) (i : ℕ) → getD us i 0 ≡ figure 0 us (i + 1)
+unfolding figure
+figure-next us i = rw add-one
+
+-- ---- the largest figure
+abbrev pub most : List ℕ → ℕ
+most us = fold max 0 (figure 0 us) (length us)
+
+-- A turn of the loop that holds the largest of the figures before i.
+pub largest-turn
+    : (us : List ℕ) (i held next : ℕ) → held ≡ fold max 0 (figure 0 us) i → next ≡ max held (getD us i 0)
+    → next ≡ fold max 0 (figure 0 us) (i + 1)
+unfolding fold figure
+largest-turn us i held next p q = q ∙ rw (add-one, p)
+
+-- Two lists of one length are within the limit where their largest figures are, and only there.
+module _ (us ls : List ℕ) (e : length ls ≡ length us) where
+  pub most-within : most us ≤ figureLimit → most ls ≤ figureLimit → question4 (pairOf us ls) .asked
+  most-within p q d u v = (
+    le-trans (fold-each (λ x y. y ≤ x) max max-best 0 (figure 0 us) (length us) d u v) p,
+    le-trans (fold-each (λ x y. y ≤ x) max max-best 0 (figure 0 ls) (length ls) d u (omega arith)) q,
+  )
+
+  pub within-most : question4 (pairOf us ls) .asked → (most us ≤ figureLimit) × (most ls ≤ figureLimit)
+  within-most w = (
+    fold-both (λ x y. y ≤ x) max max-best 0 (figure 0 us) figureLimit (length us) (omega arith) (λ k u v. w k u v .0),
+    fold-both (λ x y. y ≤ x) max max-best 0 (figure 0 ls) figureLimit (length ls) (omega arith) (λ k u v. w k u (omega arith) .1),
+  )
+
+-- ---- entries that move to the front
+-- A turn of the loop that moves them: the entries from i on are as they were.
+pub moved-turn
+    : (xs out : List ℕ) (i : ℕ) → i + 1 < length xs → Filled (λ k. getD xs k 0) xs out i
+    → Filled (λ k. getD xs k 0) xs (set out i (getD out (i + 1) 0)) (i + 1)
+moved-turn xs out i h t = stored t (getD out (i + 1) 0) (omega arith) later
+  where
+    front : List ℕ
+    front = table (λ k. getD xs k 0) i
+
+    later : getD out (i + 1) 0 ≡ getD xs (i + 1) 0
+    later =
+        ap (λ l. getD l (i + 1) 0) (t .parts)
+        ∙ ap (λ k. getD (front ++ drop i xs) (k + 1) 0) (sym (length-table (λ k. getD xs k 0) i))
+        ∙ getD-append-add front (drop i xs) 1 0
+        ∙ getD-drop i xs 1 0
+
+-- ---- a view of a state
+-- The entries that count are a part of the array, where it has them.
+pub entries-take : (n : ℕ) (xs : List ℕ) → n ≤ length xs → entries n xs ≡ take n xs
+unfolding figure
+entries-take n xs h =
+    ext-getD 0 (entries n xs) (take n xs) (length-table (figure 0 xs) n ∙ sym (length-take-le n xs h))
+    (λ i l.
+    let l′ : i < n = (rw length-table at l) in
+    getD-table (figure 0 xs) n i 0 l′ ∙ sym (getD-take n xs i 0 l′))
+
+module _ (s : History) where
+  -- A view has as many figures and held ticks as the two fields say.
+  pub horizon-seen : horizon (pastOf s .pair) ≡ s .horizon
+  horizon-seen = length-table (figure 0 (s .upper)) (s .horizon)
+
+  pub held-seen : length (pastOf s .held) ≡ s .held
+  held-seen = length-table (figure 0 (s .ticks)) (s .held)
+
+  -- What question 12 says of the sizes.
+  pub legal-sizes : Legal (pastOf s) → (1 ≤ s .horizon) × (s .horizon ≤ maxHorizon) × (s .held < s .horizon)
+  legal-sizes l = (
+    omega (arith, horizon-seen, l .lengths .0),
+    omega (arith, horizon-seen, l .lengths .1),
+    omega (arith, horizon-seen, held-seen, l .fewer),
+  )
+
+  -- There is a place for one tick more.
+  pub room-held : Room s → s .held < maxHorizon
+  room-held r = omega (arith, r .within, r .fewer)
+
+  -- What it says of the figures, where the arrays have one for each window up to the horizon.
+  module _ (u : s .horizon ≤ length (s .upper)) (v : s .horizon ≤ length (s .lower)) where
+    abbrev uppers : List ℕ
+    uppers = take (s .horizon) (s .upper)
+
+    abbrev lowers : List ℕ
+    lowers = take (s .horizon) (s .lower)
+
+    alike : length lowers ≡ length uppers
+    alike = length-take-le (s .horizon) (s .lower) v ∙ sym (length-take-le (s .horizon) (s .upper) u)
+
+    pair-seen : pastOf s .pair ≡ pairOf uppers lowers
+    pair-seen = λ i. pairOf (entries-take (s .horizon) (s .upper) u i) (entries-take (s .horizon) (s .lower) v i)
+
+    pub legal-most : Legal (pastOf s) → (most uppers ≤ figureLimit) × (most lowers ≤ figureLimit)
+    legal-most l = within-most uppers lowers alike (subst (λ (p : Pair). question4 p .asked) pair-seen (l .figures))
+
+    pub most-legal
+        : 1 ≤ s .horizon → s .horizon ≤ maxHorizon → s .held < s .horizon → most uppers ≤ figureLimit → most lowers ≤ figureLimit
+        → Legal (pastOf s)
+    most-legal p q r a b =
+        record {
+          lengths = (omega (arith, horizon-seen), omega (arith, horizon-seen));
+          figures = subst⁻¹ (λ (p : Pair). question4 p .asked) pair-seen (most-within uppers lowers alike a b);
+          fewer = omega (arith, horizon-seen, held-seen);
+        }
+
+-- ---- a tick more
+-- It is stored behind the held ones.
+entries-then : (n x : ℕ) (xs : List ℕ) → n < length xs → entries (n + 1) (set xs n x) ≡ then (entries n xs) x
+entries-then n x xs l =
+    entries-take (n + 1) (set xs n x) (omega (arith, length-set xs n x))
+    ∙ ap (λ k. take k (set xs n x)) (add-one n)
+    ∙ take-suc-set xs n x l
+    ∙ ap (λ l. then l x) (sym (entries-take n xs (omega arith)))
+
+-- The first n entries after a move: the oldest of n + 1 is gone.
+entries-moved : (n : ℕ) (xs : List ℕ) → entries n (moved xs n) ≡ drop 1 (entries (n + 1) xs)
+unfolding figure
+entries-moved n xs =
+    entries-take n (moved xs n) (omega (arith, length-append front (drop n xs), length-table next n))
+    ∙ take-at front (drop n xs) n (length-table next n)
+    ∙ ext-getD 0 front (drop 1 (entries (n + 1) xs))
+    (omega (arith, length-table next n, length-drop 1 (entries (n + 1) xs), length-table (figure 0 xs) (n + 1)))
+    (λ i l.
+    let l′ : i < n = (rw length-table at l) in
+    let e : suc i ≡ 1 + i = omega arith in
+    getD-table next n i 0 l′ ∙ ap next e
+    ∙ sym (getD-drop 1 (entries (n + 1) xs) i 0 ∙ getD-table (figure 0 xs) (n + 1) (1 + i) 0 (omega arith)))
+  where
+    next : ℕ → ℕ
+    next k = getD xs k 0
+
+    front : List ℕ
+    front = table next n
+
+module _ (s : History) (x : ℕ) (l : s .held < length (s .ticks)) where
+  abbrev longer : List ℕ
+  longer = then (pastOf s .held) x
+
+  -- How many of the ticks make way.
+  less : length longer - (horizon (pastOf s .pair) - 1) ≡ s .held + 1 - (s .horizon - 1)
+  less = omega (arith, length-then (pastOf s .held) x, horizon-seen s, held-seen s)
+
+  abbrev holding : List ℕ → Past
+  holding xs = record { pair = pastOf s .pair; held = xs }
+
+  -- There is room for it.
+  pub added-last : s .held + 1 < s .horizon → holding (entries (s .held + 1) (set (s .ticks) (s .held) x)) ≡ added (pastOf s) x
+  added-last h =
+      let none : length longer - (horizon (pastOf s .pair) - 1) ≡ 0 = omega (arith, less) in
+      ap holding (entries-then (s .held) x (s .ticks) l ∙ ap (λ k. drop k longer) (sym none))
+
+  -- The oldest makes way.
+  pub added-full
+      : (later : List ℕ) → later ≡ moved (set (s .ticks) (s .held) x) (s .held) → s .held < s .horizon → s .horizon ≤ s .held + 1
+      → holding (entries (s .held) later) ≡ added (pastOf s) x
+  added-full later e f h =
+      let one : length longer - (horizon (pastOf s .pair) - 1) ≡ 1 = omega (arith, less) in
+      ap holding
+      (ap (entries (s .held)) e
+      ∙ entries-moved (s .held) (set (s .ticks) (s .held) x)
+      ∙ ap (drop 1) (entries-then (s .held) x (s .ticks) l)
+      ∙ ap (λ k. drop k longer) (sym one))
+
+-- ---- an opening
+-- The figures are stored at the front of an array of zeros.
+pub padded-done
+    : (us zeros out : List ℕ) (i : ℕ) → zeros ≡ replicate maxHorizon 0 → Filled (figure 0 us) zeros out i → i ≡ length us
+    → out ≡ paddedTo us
+unfolding figure
+padded-done us zeros out i z t e =
+    filled-front t (length us) e ∙ (λ j. table-self (figure 0 us) us 0 (λ k l. refl) j ++ drop (length us) (z j))
+
+-- They are the entries that count.
+entries-padded : (us rest : List ℕ) (h : ℕ) → length us ≡ h → entries h (us ++ rest) ≡ us
+entries-padded us rest h e =
+    entries-take h (us ++ rest) (omega (arith, e, length-append us rest)) ∙ take-at us rest h e
+
+-- A history that holds no tick yet.
+abbrev freshHistory : ℕ → List ℕ → List ℕ → List ℕ → History
+freshHistory h us ls xs = record { horizon = h; upper = us; lower = ls; held = 0; ticks = xs }
+
+-- Three arrays of zeros make a blank history.
+pub blank-is
+    : (us ls xs : List ℕ) → us ≡ replicate maxHorizon 0 → ls ≡ replicate maxHorizon 0 → xs ≡ replicate maxHorizon 0
+    → freshHistory 0 us ls xs ≡ blank
+unfolding blank
+blank-is us ls xs u l x = λ i. freshHistory 0 (u i) (l i) (x i)
+
+-- ---- the questions of an opening
+module _ (p : Pair) where
+  -- The first that is answered no settles the answer.
+  no-at : (n : ℕ) → FirstNo (openingQuestions p) n → refusal n ≡ opening p
+  unfolding opening
+  no-at n f = sym (said-no (openingQuestions p) _ _ n f)
+
+  -- It is question 1, 2 or 4.
+  pub no-1 : ¬ question1 p .asked → openingReply UpperLength ≡ opening p
+  no-1 n = no-at 1 (inl (refl, n))
+
+  pub no-2 : question1 p .asked → ¬ question2 p .asked → openingReply LowerLength ≡ opening p
+  no-2 y n = no-at 2 (inr (y, inl (refl, n)))
+
+  pub no-4 : question1 p .asked → question2 p .asked → ¬ question4 p .asked → openingReply FigureLimit ≡ opening p
+  no-4 y₁ y₂ n = no-at 4 (inr (y₁, inr (y₂, inl (refl, n))))
+
+  -- All three are answered yes.
+  pub all-yes : question1 p .asked → question2 p .asked → question4 p .asked → openingReply Opened ≡ opening p
+  unfolding opening
+  all-yes y₁ y₂ y₄ = sym (said-yes (openingQuestions p) _ _ (result tt) (y₁, (y₂, (y₄, tt))) (λ ys. refl))
+
+  -- Where the opening is not refused, the lists are of one length that an array has room for.
+  pub begins-where : (o : Opening) → openingReply o ≡ opening p → BeginsWhere o p
+  unfolding opening
+  begins-where Opened e =
+      let ys = result-from (openingQuestions p) (λ yeses. tt) tt (sym e) .0 in record { room = ys .0 .1; lowers = ys .1 .0 }
+  begins-where UpperLength e = tt
+  begins-where LowerLength e = tt
+  begins-where FigureLimit e = tt
+
+  -- What is asked of the lists, where the answer is known.
+  pub opened-fits : (o : Opening) → o ≡ Opened → BeginsWhere o p → Fits p
+  opened-fits o e = subst (λ (x : Opening). BeginsWhere x p) e
+
+-- ---- the history that an opening hands out
+-- It is not refused: the figures are held, and no tick.
+pub unbegun-is
+    : (us ls upper lower ticks : List ℕ) → upper ≡ paddedTo us → lower ≡ paddedTo ls → length ls ≡ length us
+    → pastOf (freshHistory (length us) upper lower ticks) ≡ fresh (pairOf us ls)
+unfolding table
+unbegun-is us ls upper lower ticks u l e =
+    λ i. pastWith
+    ((ap (entries (length us)) u ∙ entries-padded us _ (length us) refl) i)
+    ((ap (entries (length us)) l ∙ entries-padded ls _ (length us) e) i)
+    []
+
+-- The answer settles which history it is, under any name of it.
+pub begun-as : (p : Pair) (h : History) (a b : Reply (Unit {0})) → a ≡ b → Begun a p h → Begun b p h
+begun-as p h a b e = subst (λ (x : Reply (Unit {0})). Begun x p h) e

@@ -1,0 +1,3 @@
+-- What is proved of histories.
+mod Histories
+pub mod Slicing

@@ -1,0 +1,73 @@
+-- What a legal history has: room for a tick, and slices that are what its view has.
+-- Assumes nothing.
+use Prim.Native.Nat.{ℕ, suc, _≤_, _<_}
+use mathlib.Core.Path.{_≡_, sym}
+use native.Mathlib.Omega.{arith}
+use mathlib.Core.List.{List}
+use lib.ListN.{length, take}
+use lib.Seq.{length-take-le}
+use Rattle.curves.specs.Pairs.{pairOf}
+use Rattle.curves.specs.Ticks.{then, Judged}
+use Rattle.curves.proofs.NextTick.{length-then}
+use Rattle.closure.specs.Closing.{maxHorizon}
+use Rattle.history.specs.declared.History.{History}
+use Rattle.history.specs.States.{Past, pastOf, Legal}
+use Rattle.history.specs.Promises.{Room}
+use Rattle.history.specs.Steps.{Slices, pastWith}
+use Rattle.history.proofs.Histories.{entries-take, legal-sizes}
+
+-- A legal history has room for a tick.
+pub legal-room : (h : History) → Legal (pastOf h) → Room h
+legal-room h L = record { within = legal-sizes h L .1; fewer = legal-sizes h L .2 }
+
+-- How long the arrays are.
+pub record Arrays (h : History) : Type 0 where
+  pub uppers : length (h .upper) ≡ maxHorizon
+  pub lowers : length (h .lower) ≡ maxHorizon
+  pub held : length (h .ticks) ≡ maxHorizon
+
+module _ (h : History) (A : Arrays h) (L : Legal (pastOf h)) where
+  -- The arrays have as many entries as are sliced off.
+  pub upper-room : h .horizon ≤ length (h .upper)
+  upper-room = omega (arith, A .uppers, legal-sizes h L .1)
+
+  pub lower-room : h .horizon ≤ length (h .lower)
+  lower-room = omega (arith, A .lowers, legal-sizes h L .1)
+
+  pub ticks-room : h .held ≤ length (h .ticks)
+  ticks-room = omega (arith, A .held, legal-sizes h L .1, legal-sizes h L .2)
+
+  -- So have the slices.
+  pub upper-length : h .horizon ≡ length (take (h .horizon) (h .upper))
+  upper-length = sym (length-take-le (h .horizon) (h .upper) upper-room)
+
+  pub lower-length : h .horizon ≡ length (take (h .horizon) (h .lower))
+  lower-length = sym (length-take-le (h .horizon) (h .lower) lower-room)
+
+  pub ticks-length : h .held ≡ length (take (h .held) (h .ticks))
+  ticks-length = sym (length-take-le (h .held) (h .ticks) ticks-room)
+
+  pub slices : Slices (take (h .horizon) (h .upper)) (take (h .horizon) (h .lower)) (take (h .held) (h .ticks))
+  slices =
+      record {
+        lowers = omega (arith, upper-length, lower-length);
+        within = omega (arith, upper-length, legal-sizes h L .1);
+        fewer = omega (arith, upper-length, ticks-length, legal-sizes h L .2);
+      }
+
+  -- Together they are the view.
+  abbrev sliced : Past
+  sliced = pastWith (take (h .horizon) (h .upper)) (take (h .horizon) (h .lower)) (take (h .held) (h .ticks))
+
+  pub past-sliced : pastOf h ≡ sliced
+  past-sliced = λ i. pastWith
+      (entries-take (h .horizon) (h .upper) upper-room i)
+      (entries-take (h .horizon) (h .lower) lower-room i)
+      (entries-take (h .held) (h .ticks) ticks-room i)
+
+-- The window of d + 1 ticks that ends at the next one is judged: there are fewer held ticks than figures.
+pub judged-next
+    : (us ls xs : List ℕ) (x d : ℕ) → Slices us ls xs → d ≤ length xs → Judged (pairOf us ls) (then xs x) (suc d)
+judged-next us ls xs x d S h =
+    let f : length xs < length us = S .fewer in
+    record { positive = omega arith; within = omega arith; begun = omega (arith, length-then xs x) }

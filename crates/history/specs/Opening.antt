@@ -1,0 +1,35 @@
+-- Opening a monitor or a generator (document 01, questions 1, 2 and 4): two lists in, a state out.
+use mathlib.Core.Path.{_≡_}
+use mathlib.Core.List.{List, [], _∷_}
+use lib.ListN.{replicate}
+use Rattle.curves.specs.Pairs.{Pair}
+use Rattle.curves.specs.Questions.{Question, Reply, result, refusal, replyTo}
+use Rattle.closure.specs.Closing.{maxHorizon, question1, question2, question4}
+use Rattle.history.specs.declared.History.{History}
+use Rattle.history.specs.States.{Past, pastOf}
+
+abbrev pub openingQuestions : Pair → List Question
+openingQuestions p = question1 p ∷ question2 p ∷ question4 p ∷ []
+
+unfoldable pub opening : Pair → Reply (Unit {0})
+opening p = replyTo (openingQuestions p) (λ yeses. tt)
+
+-- No tick is held yet.
+abbrev pub fresh : Pair → Past
+fresh p = record { pair = p; held = [] }
+
+-- Every field and every entry is 0.
+unfoldable pub blank : History
+blank =
+    record {
+      horizon = 0;
+      upper = replicate maxHorizon 0;
+      lower = replicate maxHorizon 0;
+      held = 0;
+      ticks = replicate maxHorizon 0;
+    }
+
+-- The history that an opening hands out. Where it is not refused, what lies past the horizon and past the held ticks is free.
+abbrev pub Begun : Reply (Unit {0}) → Pair → History → Type 0
+Begun (result _) p h = pastOf h ≡ fresh p
+Begun (refusal n) p h = h ≡ blank

@@ -1,0 +1,49 @@
+-- States (document 01, "Monitor and maker"): the part of one that is compared and has an effect, and question 12.
+use Prim.Native.Nat.{ℕ, _-_, _<_}
+use mathlib.Core.List.{List}
+use mathlib.Core.Logic.{Dec·and}
+use native.Mathlib.Decide.{decLt}
+use lib.ListN.{length}
+use Rattle.laws.specs.Ranges.{table}
+use Rattle.curves.specs.Pairs.{Pair, pairOf, horizon, figure}
+use Rattle.curves.specs.Ticks.{then, newest}
+use Rattle.curves.specs.Questions.{Question}
+use Rattle.closure.specs.Closing.{question1, question4}
+use Rattle.history.specs.declared.History.{History}
+
+-- What counts of a history, which is all that a generator's state has: the pair, and the held ticks in stream order.
+pub record Past : Type 0 where
+  pub pair : Pair
+  pub held : List ℕ
+
+-- The first n entries of an array; one that it does not have counts as 0, and none after them counts.
+abbrev pub entries : ℕ → List ℕ → List ℕ
+entries n xs = table (figure 0 xs) n
+
+abbrev pub pastOf : History → Past
+pastOf h =
+    record {
+      pair = pairOf (entries (h .horizon) (h .upper)) (entries (h .horizon) (h .lower));
+      held = entries (h .held) (h .ticks);
+    }
+
+-- A tick with the count x is added: the last H − 1 ticks are held.
+abbrev pub added : Past → ℕ → Past
+added v x = record { pair = v .pair; held = newest (horizon (v .pair) - 1) (then (v .held) x) }
+
+-- 12. The state has a horizon of 1 to 256, no figure above the limit, and fewer held ticks than its horizon.
+pub record Legal (v : Past) : Type 0 where
+  pub lengths : question1 (v .pair) .asked
+  pub figures : question4 (v .pair) .asked
+  pub fewer : length (v .held) < horizon (v .pair)
+
+unfoldable pub legal? : (v : Past) → Dec (Legal v)
+legal? v =
+    elim (Dec·and (question1 (v .pair) .answered)
+    (Dec·and (question4 (v .pair) .answered) (decLt (length (v .held)) (horizon (v .pair))))) [
+      | yes h ↦ yes (record { lengths = h .0; figures = h .1 .0; fewer = h .1 .1 })
+      | no h ↦ no (λ l. h (l .lengths, (l .figures, l .fewer)))
+    ]
+
+abbrev pub question12 : Past → Question
+question12 v = record { number = 12; asked = Legal v; answered = legal? v }

@@ -1,0 +1,40 @@
+-- What private functions promise each other, here and in the crates above. No public promise cites anything of it.
+use Prim.Native.Nat.{ℕ, _≤_, _<_}
+use mathlib.Core.Path.{_≡_}
+use mathlib.Core.List.{List, _++_}
+use lib.ListN.{length, getD, drop, replicate}
+use Rattle.laws.specs.Ranges.{table}
+use Rattle.curves.specs.Pairs.{Pair, pairOf, horizon}
+use Rattle.closure.specs.Closing.{maxHorizon}
+use Rattle.history.specs.declared.Opening.{Opening}
+use Rattle.history.specs.declared.Opening.the-variants as opening
+use Rattle.history.specs.States.{Past}
+
+-- Lists of one length that an array has room for.
+pub record Fits (p : Pair) : Type 0 where
+  pub room : horizon p ≤ maxHorizon
+  pub lowers : length (p .lower) ≡ horizon p
+
+-- The lists matter where an opening is not refused.
+abbrev pub BeginsWhere : Opening → Pair → Type 0
+BeginsWhere opening.Opened p = Fits p
+BeginsWhere opening.UpperLength p = Unit {0}
+BeginsWhere opening.LowerLength p = Unit {0}
+BeginsWhere opening.FigureLimit p = Unit {0}
+
+-- Figures at the front of an array, and 0 after them.
+abbrev pub paddedTo : List ℕ → List ℕ
+paddedTo us = us ++ drop (length us) (replicate maxHorizon 0)
+
+-- The first n entries are those of one place further on.
+abbrev pub moved : List ℕ → ℕ → List ℕ
+moved xs n = table (λ k. getD xs k 0) n ++ drop n xs
+
+-- Slices of figures up to the horizon, and of the held ticks.
+pub record Slices (us ls xs : List ℕ) : Type 0 where
+  pub lowers : length ls ≡ length us
+  pub within : length us ≤ maxHorizon
+  pub fewer : length xs < length us
+
+abbrev pub pastWith : List ℕ → List ℕ → List ℕ → Past
+pastWith us ls xs = record { pair = pairOf us ls; held = xs }

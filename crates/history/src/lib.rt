@@ -1,0 +1,251 @@
+// What a monitor and a generator hold: the pair, and the last ticks of the stream.
+
+ghost use mathlib.Core.Path.{_≡_};
+ghost use Prim.Native.Nat.{max, _≤_, _<_};
+ghost use lib.ListN.{length, replicate};
+ghost use Rattle.laws.specs.Ranges.{fold};
+ghost use Rattle.laws.specs.Tests.{Tells};
+ghost use Rattle.curves.specs.Pairs.{pairOf, figure};
+ghost use Rattle.closure.specs.Closing.{maxHorizon};
+ghost use Rattle.history.specs.States.{pastOf, added, Legal};
+ghost use Rattle.history.specs.Opening.{opening, fresh, blank, Begun};
+ghost use Rattle.history.specs.Answers.{openingReply};
+ghost use Rattle.history.specs.Promises.{Started, Room, Pushed};
+ghost use Rattle.history.specs.Steps.{BeginsWhere, Fits, paddedTo, moved};
+
+// The longest horizon, and the largest figure of a pair.
+const MAX_HORIZON: usize = 256;
+
+const FIGURE_LIMIT: u32 = 16_776_960;
+
+// Anyone may build one. Entries of the figures past the horizon, and of the ticks past the held ones, have no effect.
+pub struct History {
+    pub horizon: usize,
+    // Ceilings and leasts; entry 0 for the window of one tick.
+    pub upper: [u32; MAX_HORIZON],
+    pub lower: [u32; MAX_HORIZON],
+    // How many ticks are held: fewer than the horizon.
+    pub held: usize,
+    // The held ticks in the order of the stream: entry 0 is the oldest.
+    pub ticks: [u32; MAX_HORIZON],
+}
+
+// What an opening answers: the state is ready, or document 01's question is answered no.
+pub enum Opening {
+    Opened,
+    // 1: the ceiling list is not 1 to 256 long.
+    UpperLength,
+    // 2: the least list has another length.
+    LowerLength,
+    // 4: a figure is above 16,776,960.
+    FigureLimit,
+}
+
+// What an opening hands out.
+pub struct Start {
+    pub opening: Opening,
+    pub history: History,
+}
+
+impl History {
+    // The history of a stream that has not begun; where the opening is refused, all of it is 0.
+    pub fn open(ceilings: &[u32], leasts: &[u32]) -> Start
+        ensures { λ r. ⌜ Started (pairOf (now (ceilings .entry)) (now (leasts .entry))) r ⌝ }
+    {
+        let opening = ask(ceilings, leasts);
+        let history = begin(opening, ceilings, leasts);
+        Start { opening, history }
+    }
+
+    // Question 12.
+    pub fn is_legal(self) -> bool
+        ensures { λ r. ⌜ Tells r (Legal (pastOf self)) ⌝ }
+    {
+        let horizon = self.horizon;
+        if horizon < 1 {
+            return false;
+        }
+        if MAX_HORIZON < horizon {
+            return false;
+        }
+        if horizon <= self.held {
+            return false;
+        }
+        let upper = self.upper;
+        let lower = self.lower;
+        if FIGURE_LIMIT < largest(&upper[..horizon]) {
+            return false;
+        }
+        if FIGURE_LIMIT < largest(&lower[..horizon]) {
+            return false;
+        }
+        true
+    }
+
+    // The history with one tick more. One that has no room for a tick, as no legal one is, comes back as it is.
+    pub fn push(self, count: u32) -> History
+        ensures { λ r. ⌜ Pushed self count r ⌝ }
+    {
+        if MAX_HORIZON < self.horizon {
+            return self;
+        }
+        if self.horizon <= self.held {
+            return self;
+        }
+        add(self, count)
+    }
+}
+
+// Questions 1, 2 and 4.
+fn ask(ceilings: &[u32], leasts: &[u32]) -> Opening
+    ensures { λ r. ⌜ openingReply r ≡ opening (pairOf (now (ceilings .entry)) (now (leasts .entry))) ⌝ }
+{
+    let horizon = ceilings.len();
+    if horizon < 1 {
+        return Opening::UpperLength;
+    }
+    if MAX_HORIZON < horizon {
+        return Opening::UpperLength;
+    }
+    if leasts.len() != horizon {
+        return Opening::LowerLength;
+    }
+    if FIGURE_LIMIT < largest(ceilings) {
+        return Opening::FigureLimit;
+    }
+    if FIGURE_LIMIT < largest(leasts) {
+        return Opening::FigureLimit;
+    }
+    Opening::Opened
+}
+
+// The history that an opening hands out.
+fn begin(opening: Opening, ceilings: &[u32], leasts: &[u32]) -> History
+    requires { ⌜ BeginsWhere opening (pairOf (now ceilings) (now leasts)) ⌝ }
+    ensures { λ r. ⌜ Begun (openingReply opening) (pairOf (now (ceilings .entry)) (now (leasts .entry))) r ⌝ }
+{
+    match opening {
+        Opening::Opened => unbegun(ceilings, leasts),
+        Opening::UpperLength => zero_history(),
+        Opening::LowerLength => zero_history(),
+        Opening::FigureLimit => zero_history(),
+    }
+}
+
+// That of a stream that has not begun.
+fn unbegun(ceilings: &[u32], leasts: &[u32]) -> History
+    requires { ⌜ Fits (pairOf (now ceilings) (now leasts)) ⌝ }
+    ensures { λ r. ⌜ pastOf r ≡ fresh (pairOf (now (ceilings .entry)) (now (leasts .entry))) ⌝ }
+{
+    let horizon = ceilings.len();
+    let upper = padded(ceilings);
+    let lower = padded(leasts);
+    let ticks = zeros();
+    History {
+        horizon,
+        upper,
+        lower,
+        held: 0,
+        ticks,
+    }
+}
+
+// That of a refused opening. It fails question 12.
+fn zero_history() -> History
+    ensures { λ r. ⌜ r ≡ blank ⌝ }
+{
+    let upper = zeros();
+    let lower = zeros();
+    let ticks = zeros();
+    History {
+        horizon: 0,
+        upper,
+        lower,
+        held: 0,
+        ticks,
+    }
+}
+
+// No figures, or no ticks.
+fn zeros() -> [u32; MAX_HORIZON]
+    ensures { λ r. ⌜ r ≡ replicate maxHorizon 0 ⌝ }
+{
+    [0u32; MAX_HORIZON]
+}
+
+// An array that begins with these figures.
+fn padded(figures: &[u32]) -> [u32; MAX_HORIZON]
+    requires { ⌜ length (now figures) ≤ maxHorizon ⌝ }
+    ensures { λ r. ⌜ r ≡ paddedTo (now (figures .entry)) ⌝ }
+{
+    let mut out = zeros();
+    let mut i = 0;
+    while i < figures.len() {
+        out[i] = figures[i];
+        i += 1;
+    }
+    out
+}
+
+fn larger(a: u32, b: u32) -> u32
+    ensures { λ r. ⌜ r ≡ max a b ⌝ }
+{
+    if a < b { b } else { a }
+}
+
+// The largest figure. No early way out: so the loop is compiled to one that takes several figures a turn.
+fn largest(figures: &[u32]) -> u32
+    ensures { λ r. ⌜ r ≡ fold max 0 (figure 0 (now (figures .entry))) (length (now (figures .entry))) ⌝ }
+{
+    let mut most = 0;
+    let mut i = 0;
+    while i < figures.len() {
+        most = larger(most, figures[i]);
+        i += 1;
+    }
+    most
+}
+
+// The tick is put behind the held ones. Where these are then too many, the oldest goes.
+fn add(history: History, count: u32) -> History
+    requires { ⌜ Room history ⌝ }
+    ensures { λ r. ⌜ pastOf r ≡ added (pastOf history) count ⌝ }
+{
+    let horizon = history.horizon;
+    let held = history.held;
+    let upper = history.upper;
+    let lower = history.lower;
+    let mut ticks = history.ticks;
+    ticks[held] = count;
+    if held + 1 < horizon {
+        return History {
+            horizon,
+            upper,
+            lower,
+            held: held + 1,
+            ticks,
+        };
+    }
+    let later = shifted(ticks, held);
+    History {
+        horizon,
+        upper,
+        lower,
+        held,
+        ticks: later,
+    }
+}
+
+// The first n entries make way: each place gets what the next one held.
+fn shifted(ticks: [u32; MAX_HORIZON], n: usize) -> [u32; MAX_HORIZON]
+    requires { ⌜ n < maxHorizon ⌝ }
+    ensures { λ r. ⌜ r ≡ moved ticks n ⌝ }
+{
+    let mut out = ticks;
+    let mut i = 0;
+    while i < n {
+        out[i] = out[i + 1];
+        i += 1;
+    }
+    out
+}
