@@ -1,0 +1,4 @@
+-- What is proved of the monitor's functions, and of what they answer.
+pub mod Said
+mod Judging
+mod Examples

@@ -1,0 +1,13 @@
+-- `monitor::add` meets its contract: a legal history has room for the tick.
+-- Assumes nothing.
+use mathlib.Core.Path.{refl}
+use borrow.Author.Needs.{needs}
+use Rattle.history.proofs.Slicing.{legal-room}
+use Rattle.monitor.proofs.add.Statement.{statement}
+use Rattle.monitor.proofs.add.Tie as tie
+
+returns : tie.Need-returns
+returns c = (c .push .ensures .tick (legal-room _ (c .before .pre)), refl)
+
+pub add-spec : {M : Type 1} → statement M
+add-spec = tie.close (tie.spec (λ c κs. search needs) returns)

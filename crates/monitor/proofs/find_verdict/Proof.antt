@@ -1,0 +1,36 @@
+-- `monitor::find_verdict` meets its contract: question 12, the failed mark and then the windows settle the answer.
+-- Assumes nothing.
+use mathlib.Core.Path.{sym, _∙_}
+use borrow.Author.Needs.{needs}
+use borrow.Author.Tests.{not-true, not-false}
+use Rattle.laws.proofs.Tests.{either-true, either-false}
+use Rattle.history.specs.States.{pastOf, Legal}
+use Rattle.monitor.specs.Monitoring.{watch}
+use Rattle.monitor.proofs.Said.{judging-bad, judging-failed, judging-unfailed}
+use Rattle.monitor.proofs.find_verdict.Statement.{statement}
+use Rattle.monitor.proofs.find_verdict.Tie as tie
+
+returns : tie.Need-returns
+returns c =
+    let told = c .before .is-legal .result in
+    sym (judging-bad _ _ (either-false _ _ told (not-true told (c .if1 .taken)) (c .before .is-legal .ensures)))
+
+-- Where question 12 is answered yes.
+legal : (e : tie.Else1) → Legal (pastOf (e .before .before .args .history))
+legal e = let told = e .before .is-legal .result in either-true _ _ told (not-false told (e .if1 .left)) (e .before .is-legal .ensures)
+
+returns-2 : tie.Need-returns-2
+returns-2 c = sym (judging-failed _ _ (legal (c .before)) (c .if2 .taken))
+
+judge-history-requires : tie.Need-judge-history-requires
+judge-history-requires c κs = legal (c .before)
+
+returns-3 : tie.Need-returns-3
+returns-3 c =
+    let e = c .before .before in
+    let args = e .before .before .args in
+    let state = watch (pastOf (args .history)) (args .failed) in
+    c .judge-history .ensures ∙ sym (judging-unfailed state (args .count) (legal e) (c .before .if2 .left))
+
+pub find-verdict-spec : {M : Type 1} → statement M
+find-verdict-spec = tie.close (tie.spec (λ c κs. search needs) returns returns-2 judge-history-requires returns-3)

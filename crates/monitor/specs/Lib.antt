@@ -1,0 +1,6 @@
+-- The monitor: what it answers, lists of ticks, and what the private functions promise each other.
+pub mod Monitoring
+pub mod Answers
+pub mod Promises
+pub mod Runs
+pub mod Steps

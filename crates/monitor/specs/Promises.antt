@@ -1,0 +1,21 @@
+-- What the public operations promise: the answer, and the state that comes back.
+use Prim.Native.Nat.{ℕ}
+use mathlib.Core.Path.{_≡_}
+use mathlib.Core.Bool.{false}
+use Rattle.curves.specs.Pairs.{Pair}
+use Rattle.history.specs.Opening.{opening, Begun}
+use Rattle.history.specs.Answers.{openingReply}
+use Rattle.monitor.specs.declared.Monitor.{Monitor}
+use Rattle.monitor.specs.declared.Opened.{Opened}
+use Rattle.monitor.specs.declared.Judgement.{Judgement}
+use Rattle.monitor.specs.Monitoring.{watchOf, judging, MonitorNext}
+use Rattle.monitor.specs.Answers.{verdictReply}
+
+pub record MonitorOpened (p : Pair) (r : Opened) : Type 0 where
+  pub answer : openingReply (r .opening) ≡ opening p
+  pub history : Begun (opening p) p (r .state .history)
+  pub unfailed : r .state .failed ≡ false
+
+pub record MonitorTicked (m : Monitor) (x : ℕ) (r : Judgement) : Type 0 where
+  pub answer : verdictReply (r .verdict) ≡ judging (watchOf m) x
+  pub next : MonitorNext (judging (watchOf m) x) m x (r .next)

@@ -1,0 +1,156 @@
+// The monitor: judges each tick of a stream by the windows that end there.
+
+use history::History;
+use history::Opening;
+ghost use mathlib.Core.Path.{_≡_};
+ghost use mathlib.Core.Bool.{false};
+ghost use Rattle.curves.specs.Pairs.{pairOf};
+ghost use Rattle.curves.specs.Questions.{result};
+ghost use Rattle.history.specs.States.{pastOf, added, Legal};
+ghost use Rattle.history.specs.Steps.{Slices, pastWith};
+ghost use Rattle.monitor.specs.Monitoring.{watch, judged, verdictOn, judging, marked, MonitorNext};
+ghost use Rattle.monitor.specs.Answers.{verdictReply};
+ghost use Rattle.monitor.specs.Promises.{MonitorOpened, MonitorTicked};
+ghost use Rattle.monitor.specs.Steps.{AddsWhere};
+
+pub struct Monitor {
+    pub history: History,
+    pub failed: bool,
+}
+
+pub struct Opened {
+    pub opening: Opening,
+    pub state: Monitor,
+}
+
+// What a tick is found to be.
+pub enum Verdict {
+    Passed,
+    // The shortest window that ends at the tick and is outside its figures: it has too many, or too few.
+    TooMany { window: usize },
+    TooFew { window: usize },
+    // A tick before this one was turned down.
+    AlreadyFailed,
+    // 12: the state has no legal horizon, a figure above 16,776,960, or as many held ticks as its horizon or more.
+    BadState,
+}
+
+pub struct Judgement {
+    pub verdict: Verdict,
+    pub next: Monitor,
+}
+
+impl Monitor {
+    // A monitor of the pair of `ceilings` and `leasts`, entry 0 for the window of one tick.
+    pub fn open(ceilings: &[u32], leasts: &[u32]) -> Opened
+        ensures { λ r. ⌜ MonitorOpened (pairOf (now (ceilings .entry)) (now (leasts .entry))) r ⌝ }
+    {
+        let start = History::open(ceilings, leasts);
+        let opening = start.opening;
+        let history = start.history;
+        Opened {
+            opening,
+            state: Monitor {
+                history,
+                failed: false,
+            },
+        }
+    }
+
+    // Judges the next tick. It is added to the history where it passes; else the monitor has failed.
+    pub fn tick(self, count: u32) -> Judgement
+        ensures { λ r. ⌜ MonitorTicked self count r ⌝ }
+    {
+        let verdict = find_verdict(self.history, self.failed, count);
+        let next = advance(self, verdict, count);
+        Judgement { verdict, next }
+    }
+}
+
+// The verdict on the next tick. Question 12 comes before the failed mark.
+fn find_verdict(history: History, failed: bool, count: u32) -> Verdict
+    ensures { λ r. ⌜ verdictReply r ≡ judging (watch (pastOf history) failed) count ⌝ }
+{
+    if !history.is_legal() {
+        return Verdict::BadState;
+    }
+    if failed {
+        return Verdict::AlreadyFailed;
+    }
+    judge_history(history, count)
+}
+
+// Judges by what counts of the history: its figures up to the horizon, and its held ticks.
+fn judge_history(history: History, count: u32) -> Verdict
+    requires { ⌜ Legal (pastOf history) ⌝ }
+    ensures { λ r. ⌜ verdictReply r ≡ result (judged (verdictOn (pastOf history) count)) ⌝ }
+{
+    let horizon = history.horizon;
+    let held = history.held;
+    let upper = history.upper;
+    let lower = history.lower;
+    let ticks = history.ticks;
+    judge(&upper[..horizon], &lower[..horizon], &ticks[..held], count)
+}
+
+// Window after window, the shortest first; `sum` has the new tick and the d before it.
+fn judge(upper: &[u32], lower: &[u32], ticks: &[u32], count: u32) -> Verdict
+    requires { ⌜ Slices (now upper) (now lower) (now ticks) ⌝ }
+    ensures { λ r. ⌜ verdictReply r
+        ≡ result (judged (verdictOn (pastWith (now (upper .entry)) (now (lower .entry)) (now (ticks .entry))) count)) ⌝ }
+{
+    let held = ticks.len();
+    let mut sum = count as u64;
+    let mut d = 0;
+    let verdict = loop {
+        if (upper[d] as u64) < sum {
+            break Verdict::TooMany { window: d + 1 };
+        }
+        if sum < lower[d] as u64 {
+            break Verdict::TooFew { window: d + 1 };
+        }
+        if held <= d {
+            break Verdict::Passed;
+        }
+        sum += ticks[held - 1 - d] as u64;
+        d += 1;
+    };
+    verdict
+}
+
+// The next state.
+fn advance(monitor: Monitor, verdict: Verdict, count: u32) -> Monitor
+    requires { ⌜ AddsWhere verdict (pastOf (monitor .history)) ⌝ }
+    ensures { λ r. ⌜ MonitorNext (verdictReply verdict) monitor count r ⌝ }
+{
+    match verdict {
+        Verdict::Passed => add(monitor, count),
+        Verdict::TooMany { window: _ } => fail(monitor),
+        Verdict::TooFew { window: _ } => fail(monitor),
+        Verdict::AlreadyFailed => monitor,
+        Verdict::BadState => monitor,
+    }
+}
+
+// The state after a tick that passed.
+fn add(monitor: Monitor, count: u32) -> Monitor
+    requires { ⌜ Legal (pastOf (monitor .history)) ⌝ }
+    ensures { λ r. ⌜ (pastOf (r .history) ≡ added (pastOf (monitor .history)) count) × (r .failed ≡ false) ⌝ }
+{
+    let history = monitor.history.push(count);
+    Monitor {
+        history,
+        failed: false,
+    }
+}
+
+// The state after a tick that was turned down: the tick is not added.
+fn fail(monitor: Monitor) -> Monitor
+    ensures { λ r. ⌜ r ≡ marked monitor ⌝ }
+{
+    let history = monitor.history;
+    Monitor {
+        history,
+        failed: true,
+    }
+}
