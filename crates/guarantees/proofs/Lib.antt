@@ -1,3 +1,8 @@
 -- What the customer was promised, proved. Assumes nothing.
+pub mod Total
+pub mod Held
+pub mod Monitoring
+pub mod Generating
+pub mod NeverStuck
 pub mod Marked
 pub mod ReadBack

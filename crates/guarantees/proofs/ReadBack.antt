@@ -25,9 +25,9 @@ use Rattle.constraints.specs.Theorems.{GivesPair, givenPair}
 use Rattle.constraints.proofs.Named.{named-own, one-more, window-largest, largest-le}
 use Rattle.constraints.proofs.Said.{pair-iff-all-yes, given-is-text-pair}
 use Rattle.rendering.proofs.Said.{written-is, written-iff-all-yes, text-fits}
-use Rattle.guarantees.specs.ReadBack.{rendered, ReadsBack}
 use Rattle.rendering.specs.Rendering.{line, textOf}
 use Rattle.rendering.specs.Rendering as rendering
+use Rattle.guarantees.specs.ReadBack.{rendered, ReadsBack}
 
 -- ---- a record
 -- The record without what ends it.

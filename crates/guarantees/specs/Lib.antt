@@ -1,3 +1,6 @@
 -- What the customer was promised, over the definitions that the promises cite.
+pub mod Total
+pub mod Exact
+pub mod NeverStuck
 pub mod Marked
 pub mod ReadBack

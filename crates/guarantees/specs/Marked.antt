@@ -4,9 +4,15 @@ use mathlib.Core.Path.{_≡_}
 use mathlib.Core.List.{List, [], _∷_, _++_}
 use lib.ListN.{length}
 use Rattle.curves.specs.Pairs.{Pair, pairOf, horizon, Equal}
+use Rattle.curves.specs.Conformance.{Conforms}
+use Rattle.curves.specs.Questions.{Reply, result, refusal}
 use Rattle.closure.specs.Closing.{refused, closed, closing}
 use Rattle.csv.specs.Text.{Bytes, comma, crlf, header}
 use Rattle.constraints.specs.Theorems.{GivesPair, givenPair}
+use Rattle.history.specs.States.{Past}
+use Rattle.history.specs.Opening.{opening, fresh}
+use Rattle.generator.specs.Generating.{Bounds, looking, sentFrom, sending}
+use Rattle.generator.specs.Runs.{addedAll}
 
 -- `3,0,3` and `5,5,9` below the header line.
 unfoldable pub publishedTriples : Bytes
@@ -19,6 +25,8 @@ pub data Case : Type 0 where
   closes : Pair → ℕ → Pair → Case
   -- Closing the pair is refused with 5.
   refuses : Pair → Case
+  -- The start conforms to the pair; a generator that was opened on the pair and has sent the start shows this range, or is refused so.
+  goesOn : Pair → List ℕ → Reply Bounds → Case
 
 -- What a case says, whatever result lists of at least H entries hold.
 abbrev pub Holds : Case → Type 0
@@ -28,6 +36,9 @@ Holds (closes p n q) =
     (found : Pair) → horizon p ≤ length (found .upper) → horizon p ≤ length (found .lower) → closing p found ≡ closed n q found
 Holds (refuses p) =
     (found : Pair) → horizon p ≤ length (found .upper) → horizon p ≤ length (found .lower) → closing p found ≡ refused 5 found
+Holds (goesOn p xs a) =
+    let sent : Past = addedAll (fresh p) xs in
+    (opening p ≡ result tt) × Conforms p xs × (looking sent ≡ a) × ((choice : ℕ) → sending sent choice ≡ sentFrom a choice)
 
 abbrev pub AllHold : List Case → Type 0
 AllHold [] = Unit {0}
@@ -44,6 +55,9 @@ marked =
     ∷ closes (pairOf (2 ∷ 3 ∷ 5 ∷ 5 ∷ []) (0 ∷ 0 ∷ 0 ∷ 3 ∷ [])) 1 (pairOf (2 ∷ 3 ∷ 5 ∷ 5 ∷ []) (0 ∷ 0 ∷ 1 ∷ 3 ∷ []))
     ∷ reads publishedTriples (pairOf (3 ∷ 6 ∷ 3 ∷ 12 ∷ 9 ∷ []) (0 ∷ 0 ∷ 0 ∷ 0 ∷ 5 ∷ []))
     ∷ closes (pairOf (3 ∷ 6 ∷ 3 ∷ 12 ∷ 9 ∷ []) (0 ∷ 0 ∷ 0 ∷ 0 ∷ 5 ∷ [])) 4 (pairOf (1 ∷ 2 ∷ 3 ∷ 4 ∷ 5 ∷ []) (1 ∷ 2 ∷ 3 ∷ 4 ∷ 5 ∷ []))
+    ∷ goesOn (pairOf (3 ∷ 6 ∷ 3 ∷ 12 ∷ 9 ∷ []) (0 ∷ 0 ∷ 0 ∷ 0 ∷ 5 ∷ [])) (0 ∷ 2 ∷ 1 ∷ 0 ∷ 2 ∷ 0 ∷ []) (refusal 13)
+    ∷ goesOn (pairOf (2 ∷ 3 ∷ 5 ∷ 5 ∷ []) (0 ∷ 0 ∷ 1 ∷ 3 ∷ [])) (2 ∷ 1 ∷ []) (result (record { lo = 0; hi = 2 }))
+    ∷ goesOn (pairOf (2 ∷ 3 ∷ 5 ∷ 5 ∷ []) (0 ∷ 0 ∷ 1 ∷ 3 ∷ [])) (2 ∷ 1 ∷ 0 ∷ 2 ∷ []) (result (record { lo = 0; hi = 1 }))
     ∷ []
 
 abbrev pub MarkedFigures : Type 0

@@ -1,0 +1,26 @@
+-- The definitions of specs/ at small examples: each holds by computation. Assumes nothing.
+use mathlib.Core.Path.{_≡_, refl}
+use mathlib.Core.List.{[], _∷_}
+use mathlib.Core.Logic.{Dec·and, ⊎-map}
+use native.Mathlib.Decide.{decLe, decLt}
+use Rattle.laws.specs.Ranges.{fold}
+use Rattle.laws.proofs.Search.{every, every?}
+use Rattle.curves.specs.Streams.{sum}
+use Rattle.curves.specs.Pairs.{Pair, pairOf, figure}
+use Rattle.curves.specs.Questions.{ask, result}
+use Rattle.curves.proofs.NextTick.{range-from, range?}
+use Rattle.history.specs.States.{Past, legal?}
+use Rattle.generator.specs.Generating.{looking}
+use Rattle.generator.specs.Runs.{sendings}
+
+abbrev pair : Pair
+pair = pairOf (2 ∷ 3 ∷ 5 ∷ 5 ∷ []) (0 ∷ 0 ∷ 1 ∷ 3 ∷ [])
+
+-- Held: 2, 1.
+abbrev some : Past
+some = record { pair = pair; held = 2 ∷ 1 ∷ [] }
+
+-- From lo 0 to hi 2 the choice 5 sends 2, its remainder by 3; then there is only 0 to send.
+five-by-three : sendings some (5 ∷ 5 ∷ []) ≡ result 2 ∷ result 0 ∷ []
+unfolding sendings looking ask legal? ⊎-map every every? Dec·and decLe decLt figure range? range-from fold sum
+five-by-three = refl

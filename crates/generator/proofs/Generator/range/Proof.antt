@@ -1,0 +1,34 @@
+-- `generator::Generator::range` meets its promise: question 12 and then the limits of the next count settle what is shown.
+-- Assumes nothing.
+use mathlib.Core.Path.{sym}
+use borrow.Author.Needs.{needs}
+use borrow.Author.Tests.{not-true, not-false}
+use Rattle.laws.proofs.Tests.{either-true, either-false}
+use Rattle.history.specs.States.{pastOf, Legal}
+use Rattle.generator.proofs.Said.{looking-bad}
+use Rattle.generator.proofs.Ranging.{limits-small, shown-looks}
+use Rattle.generator.proofs.Generator.range.Statement.{statement}
+use Rattle.generator.proofs.Generator.range.Tie as tie
+
+returns : tie.Need-returns
+returns c =
+    let told = c .before .is-legal .result in
+    sym (looking-bad _ (either-false _ _ told (not-true told (c .if1 .taken)) (c .before .is-legal .ensures)))
+
+-- Where question 12 is answered yes, the state has its form.
+legal : (e : tie.Else1) → Legal (pastOf (e .before .before .args .self .history))
+legal e = let told = e .before .is-legal .result in either-true _ _ told (not-false told (e .if1 .left)) (e .before .is-legal .ensures)
+
+find-limits-requires : tie.Need-find-limits-requires
+find-limits-requires c κs = legal c
+
+show-requires : tie.Need-show-requires
+show-requires c κs = limits-small _ (legal (c .before)) _ (c .find-limits .ensures)
+
+returns-2 : tie.Need-returns-2
+returns-2 c =
+    let found = c .before in
+    shown-looks _ (legal (found .before)) (found .find-limits .result) (found .find-limits .ensures) (c .show .result) (c .show .ensures)
+
+pub range-spec : {M : Type 1} → statement M
+range-spec = tie.close (tie.spec (λ c κs. search needs) returns find-limits-requires show-requires returns-2)

@@ -1,0 +1,4 @@
+-- What is proved of the generator's functions, and of what they answer.
+pub mod Said
+mod Ranging
+mod Examples

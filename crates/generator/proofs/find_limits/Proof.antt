@@ -1,0 +1,53 @@
+-- `generator::find_limits` meets its contract: the slices that are handed on are what the state's view has.
+-- Assumes nothing.
+use mathlib.Core.Path.{subst⁻¹}
+use borrow.Author.Needs.{needs}
+use Rattle.history.specs.States.{Past}
+use Rattle.history.proofs.Slicing.{Arrays, upper-room, lower-room, ticks-room, upper-length, lower-length, ticks-length}
+use Rattle.history.proofs.Slicing.{slices, past-sliced}
+use Rattle.generator.specs.Steps.{Limited}
+use Rattle.generator.proofs.find_limits.Statement.{statement}
+use Rattle.generator.proofs.find_limits.Tie as tie
+
+-- How long the state's arrays are.
+arrays : (s : tie.Start) → Arrays (s .args .history)
+arrays s = record { uppers = search needs; lowers = search needs; held = search needs }
+
+array-share-prefix-upper : tie.Need-array-share-prefix-upper
+array-share-prefix-upper c = let s = c .before .before .before in upper-room _ (arrays s) (s .pre)
+
+slice-aggregate-limit : tie.Need-slice-aggregate-limit
+slice-aggregate-limit c = let s = c .before .before .before .before in upper-length _ (arrays s) (s .pre)
+
+array-share-prefix-lower : tie.Need-array-share-prefix-lower
+array-share-prefix-lower c = let s = c .before .before .before .before in lower-room _ (arrays s) (s .pre)
+
+slice-aggregate-limit-2 : tie.Need-slice-aggregate-limit-2
+slice-aggregate-limit-2 c = let s = c .before .before .before .before .before in lower-length _ (arrays s) (s .pre)
+
+array-share-prefix-ticks : tie.Need-array-share-prefix-ticks
+array-share-prefix-ticks c = let s = c .before .before .before .before .before in ticks-room _ (arrays s) (s .pre)
+
+slice-aggregate-limit-3 : tie.Need-slice-aggregate-limit-3
+slice-aggregate-limit-3 c = let s = c .before .before .before .before .before .before in ticks-length _ (arrays s) (s .pre)
+
+limit-requires : tie.Need-limit-requires
+limit-requires c κs = let s = c .before .before .before .before .before .before in slices _ (arrays s) (s .pre)
+
+returns : tie.Need-returns
+returns c =
+    let s = c .before .before .before .before .before .before .before in
+    subst⁻¹ (λ (v : Past). Limited v (c .limit .result)) (past-sliced _ (arrays s) (s .pre)) (c .limit .ensures)
+
+pub find-limits-spec : {M : Type 1} → statement M
+find-limits-spec =
+    tie.close
+    (tie.spec
+    array-share-prefix-upper
+    slice-aggregate-limit
+    array-share-prefix-lower
+    slice-aggregate-limit-2
+    array-share-prefix-ticks
+    slice-aggregate-limit-3
+    limit-requires
+    returns)

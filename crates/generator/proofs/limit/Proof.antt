@@ -1,0 +1,102 @@
+-- `generator::limit` meets its contract: before a turn lo and end stand for the windows of up to d + 1 ticks.
+-- Assumes nothing.
+use Prim.Native.Nat.{_+_, _*_, _-_, _≤_}
+use native.Mathlib.Omega.{arith}
+use borrow.Author.Needs.{needs}
+use lib.ListN.{length, getD}
+use Rattle.curves.specs.Streams.{countLimit}
+use Rattle.generator.proofs.Ranging.{Narrowed, narrowed-once, narrowed-more, narrowed-whole}
+use Rattle.generator.proofs.limit.Statement.{statement}
+use Rattle.generator.proofs.limit.Tie as tie
+
+abbrev Inv-loop : tie.InvT-loop
+Inv-loop upper lower ticks held lo₀ end₀ sum₀ d₀ lo end sum d =
+    (sum ≤ d * countLimit) × Narrowed upper lower ticks lo end sum d
+
+abbrev μ-loop : tie.MeasureT-loop
+μ-loop upper lower ticks held lo₀ end₀ sum₀ d₀ lo end sum d = length ticks - d
+
+cast-lo : tie.Need-cast-lo Inv-loop μ-loop
+cast-lo c = omega (arith, c .shared-slice-known4 .given 0)
+
+cast-end : tie.Need-cast-end Inv-loop μ-loop
+cast-end c = omega (arith, c .shared-slice-known5 .given 0)
+
+add-end : tie.Need-add-end Inv-loop μ-loop
+add-end c = omega (arith, c .shared-slice-known5 .given 0)
+
+loop-holds : tie.Need-loop-holds Inv-loop μ-loop
+loop-holds c =
+    (omega arith, narrowed-once _ _ _ (c .before .before .before .before .before .pre))
+
+-- The turn's beginning and the function's, seen from where its tick is known, and the bound on that tick.
+abbrev head : tie.After-shared-slice-known6 Inv-loop μ-loop → tie.At-loop Inv-loop μ-loop
+head a = a .before .before
+
+abbrev start : tie.After-shared-slice-known6 Inv-loop μ-loop → tie.Start Inv-loop μ-loop
+start a = head a .before .before .before .before .before .before
+
+added : (a : tie.After-shared-slice-known6 Inv-loop μ-loop)
+    → getD (start a .args .ticks .now) (length (start a .args .ticks .now) - 1 - head a .loop .d) 0 ≤ countLimit
+added a = omega (arith, a .shared-slice-known6 .given (length (start a .args .ticks .now) - 1 - head a .loop .d))
+
+cast-sum : tie.Need-cast-sum Inv-loop μ-loop
+cast-sum c = omega (arith, added c)
+
+add-sum : tie.Need-add-sum Inv-loop μ-loop
+add-sum c = omega (arith, added c, start c .pre .within, start c .pre .fewer)
+
+cast-difference : tie.Need-cast-difference Inv-loop μ-loop
+cast-difference c = omega (arith, c .shared-slice-known7 .given (head (c .before) .loop .d + 1))
+
+cast-difference-2 : tie.Need-cast-difference-2 Inv-loop μ-loop
+cast-difference-2 c = omega (arith, c .shared-slice-known8 .given (head (c .before .before .before .before) .loop .d + 1))
+
+add-difference : tie.Need-add-difference Inv-loop μ-loop
+add-difference c = omega (arith, c .shared-slice-known8 .given (head (c .before .before .before .before) .loop .d + 1))
+
+loop-again : tie.Need-loop-again Inv-loop μ-loop
+loop-again c =
+    let wider = c .before .before .before in
+    let a = wider .before .before .before in (
+      omega (arith, added a),
+      narrowed-more _ _ _ (start a .pre) _ _ _ _ _ _ (head a .loop .inv .1) (omega arith) _ _
+          (wider .before .difference .ensures) (c .before .difference2 .ensures) (wider .larger .ensures) (c .smaller .ensures),
+    )
+
+returns : tie.Need-returns Inv-loop μ-loop
+returns c = narrowed-whole _ _ _ _ _ _ _ (c .before .loop .inv .1) (omega arith)
+
+pub limit-spec : {M : Type 1} → statement M
+limit-spec =
+    tie.close
+    (tie.spec
+    Inv-loop
+    μ-loop
+    (λ c. search needs)
+    cast-lo
+    (λ c. search needs)
+    cast-end
+    add-end
+    loop-holds
+    (λ c. search needs)
+    (λ c. search needs)
+    (λ c. search needs)
+    (λ c. search needs)
+    cast-sum
+    add-sum
+    (λ c. search needs)
+    (λ c. search needs)
+    (λ c. search needs)
+    cast-difference
+    (λ c κs. search needs)
+    (λ c κs. search needs)
+    (λ c. search needs)
+    (λ c. search needs)
+    cast-difference-2
+    add-difference
+    (λ c κs. search needs)
+    (λ c κs. search needs)
+    (λ c. search needs)
+    loop-again
+    returns)

@@ -1,0 +1,22 @@
+-- `generator::show` meets its contract: where there is a count, both ends are within the limit of figures.
+-- Assumes nothing.
+use Prim.Native.Nat.{suc, _≤_}
+use native.Mathlib.Omega.{arith}
+use borrow.Author.Needs.{needs}
+use Rattle.closure.specs.Closing.{figureLimit}
+use Rattle.generator.proofs.show.Statement.{statement}
+use Rattle.generator.proofs.show.Tie as tie
+
+-- Where the limits leave a count.
+small : (e : tie.Else1) → e .before .args .limits .end ≤ suc figureLimit
+small e = e .before .pre (omega arith)
+
+pub show-spec : {M : Type 1} → statement M
+show-spec =
+    tie.close
+    (tie.spec
+    (λ c. search needs)
+    (λ c. search needs)
+    (λ c. omega (arith, small c))
+    (λ c. omega (arith, small c))
+    (λ c. search needs))

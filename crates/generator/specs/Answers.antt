@@ -1,0 +1,18 @@
+-- Document 01's number and values for each case of `Admissible` and of `Sending`.
+use Prim.Native.Nat.{ℕ}
+use Rattle.curves.specs.Questions.{Reply, result, refusal}
+use Rattle.generator.specs.declared.Admissible.{Admissible}
+use Rattle.generator.specs.declared.Admissible.the-variants as admissible
+use Rattle.generator.specs.declared.Sending.{Sending}
+use Rattle.generator.specs.declared.Sending.the-variants as sending
+use Rattle.generator.specs.Generating.{Bounds}
+
+abbrev pub rangeReply : Admissible → Reply Bounds
+rangeReply (admissible.Range l h) = result (record { lo = l; hi = h })
+rangeReply admissible.BadState = refusal 12
+rangeReply admissible.NoCount = refusal 13
+
+abbrev pub sendingReply : Sending → Reply ℕ
+sendingReply (sending.Sent x) = result x
+sendingReply sending.BadState = refusal 12
+sendingReply sending.NoCount = refusal 13

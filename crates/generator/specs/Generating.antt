@@ -1,0 +1,40 @@
+-- A tick of the generator, and a look at its admissible range (document 01, "Monitor and maker").
+use Prim.Native.Nat.{ℕ, suc, _+_, _-_, _%_}
+use mathlib.Core.Path.{_≡_}
+use mathlib.Core.List.{List, [], _∷_}
+use Rattle.curves.specs.Ticks.{Range}
+use Rattle.curves.specs.Questions.{Question, Reply, result, refusal, replyTo}
+use Rattle.curves.proofs.NextTick.{range?}
+use Rattle.history.specs.States.{Past, pastOf, added, question12}
+use Rattle.generator.specs.declared.Generator.{Generator}
+
+-- 13. Some count keeps every judged window: there is an admissible range.
+abbrev pub question13 : Past → Question
+question13 v = record { number = 13; asked = Range (v .pair) (v .held); answered = range? (v .pair) (v .held) }
+
+abbrev pub lookQuestions : Past → List Question
+lookQuestions v = question12 v ∷ question13 v ∷ []
+
+-- The smallest and the largest count that can be sent.
+pub record Bounds : Type 0 where
+  pub lo : ℕ
+  pub hi : ℕ
+
+unfoldable pub looking : Past → Reply Bounds
+looking v = replyTo (lookQuestions v) (λ yeses. let r : Range (v .pair) (v .held) = yeses .1 .0 in record { lo = r .lo; hi = r .hi })
+
+-- The count that a choice leads to: lo and the remainder of the choice by hi − lo + 1.
+abbrev pub chosen : Bounds → ℕ → ℕ
+chosen b choice = b .lo + choice % suc (b .hi - b .lo)
+
+abbrev pub sentFrom : Reply Bounds → ℕ → Reply ℕ
+sentFrom (result b) choice = result (chosen b choice)
+sentFrom (refusal n) choice = refusal n
+
+abbrev pub sending : Past → ℕ → Reply ℕ
+sending v choice = sentFrom (looking v) choice
+
+-- The next state. A count that is sent is added, and what lies outside the next state's view is free; a refusal leaves the very state.
+abbrev pub GeneratorNext : Reply ℕ → Generator → Generator → Type 0
+GeneratorNext (result x) g next = pastOf (next .history) ≡ added (pastOf (g .history)) x
+GeneratorNext (refusal n) g next = next ≡ g

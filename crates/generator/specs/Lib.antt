@@ -1,0 +1,6 @@
+-- The generator: what it answers, lists of calls, and what the private functions promise each other.
+pub mod Generating
+pub mod Answers
+pub mod Promises
+pub mod Runs
+pub mod Steps

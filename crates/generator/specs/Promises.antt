@@ -1,0 +1,25 @@
+-- What the public operations promise: the answer, and the state that comes back.
+use Prim.Native.Nat.{ℕ}
+use mathlib.Core.Path.{_≡_}
+use Rattle.curves.specs.Pairs.{Pair}
+use Rattle.history.specs.States.{pastOf}
+use Rattle.history.specs.Opening.{opening, Begun}
+use Rattle.history.specs.Answers.{openingReply}
+use Rattle.generator.specs.declared.Generator.{Generator}
+use Rattle.generator.specs.declared.Opened.{Opened}
+use Rattle.generator.specs.declared.Admissible.{Admissible}
+use Rattle.generator.specs.declared.Sent.{Sent}
+use Rattle.generator.specs.Generating.{looking, sending, GeneratorNext}
+use Rattle.generator.specs.Answers.{rangeReply, sendingReply}
+
+pub record GeneratorOpened (p : Pair) (r : Opened) : Type 0 where
+  pub answer : openingReply (r .opening) ≡ opening p
+  pub history : Begun (opening p) p (r .state .history)
+
+pub record GeneratorTicked (g : Generator) (choice : ℕ) (r : Sent) : Type 0 where
+  pub answer : sendingReply (r .sending) ≡ sending (pastOf (g .history)) choice
+  pub next : GeneratorNext (sending (pastOf (g .history)) choice) g (r .next)
+
+-- A look has no state to hand back: the caller keeps the one given.
+abbrev pub GeneratorLooked : Generator → Admissible → Type 0
+GeneratorLooked g r = rangeReply r ≡ looking (pastOf (g .history))

@@ -1,0 +1,38 @@
+-- What the private functions of this crate promise each other. No public promise cites anything of it.
+use Prim.Native.Nat.{ℕ, suc, _-_, _≤_, _<_}
+use mathlib.Core.Path.{_≡_}
+use mathlib.Core.Logic.{_↔_}
+use Rattle.curves.specs.Ticks.{then, Keeps}
+use Rattle.closure.specs.Closing.{figureLimit}
+use Rattle.history.specs.States.{Past, Legal}
+use Rattle.generator.specs.declared.Admissible.{Admissible}
+use Rattle.generator.specs.declared.Admissible.the-variants as admissible
+use Rattle.generator.specs.declared.Sending.{Sending}
+use Rattle.generator.specs.declared.Sending.the-variants as sending
+use Rattle.generator.specs.declared.Limits.{Limits}
+
+-- The state's form matters where a count is sent.
+abbrev pub AddsSent : Sending → Past → Type 0
+AddsSent (sending.Sent x) v = Legal v
+AddsSent sending.BadState v = Unit {0}
+AddsSent sending.NoCount v = Unit {0}
+
+-- The counts that the next tick can have are those from lo to before end.
+abbrev pub Limited : Past → Limits → Type 0
+Limited v r = (x : ℕ) → Keeps (v .pair) (then (v .held) x) ↔ ((r .lo ≤ x) × (x < r .end))
+
+-- Where there is such a count, all are within the limit of figures.
+abbrev pub Small : Limits → Type 0
+Small r = r .lo < r .end → r .end ≤ suc figureLimit
+
+-- What they are shown as.
+abbrev pub Shows : Limits → Admissible → Type 0
+Shows l (admissible.Range lo hi) = (l .lo < l .end) × (lo ≡ l .lo) × (hi ≡ l .end - 1)
+Shows l admissible.BadState = ⊥
+Shows l admissible.NoCount = l .end ≤ l .lo
+
+-- A range has a count, and none above the limit of figures.
+abbrev pub ChoosesWhere : Admissible → Type 0
+ChoosesWhere (admissible.Range lo hi) = (lo ≤ hi) × (hi ≤ figureLimit)
+ChoosesWhere admissible.BadState = Unit {0}
+ChoosesWhere admissible.NoCount = Unit {0}

@@ -1,0 +1,182 @@
+// The generator: sends, tick after tick, a count that keeps every window that ends there.
+
+use history::History;
+use history::Opening;
+ghost use mathlib.Core.Path.{_≡_};
+ghost use Prim.Native.Nat.{min, max, _-_};
+ghost use Rattle.curves.specs.Pairs.{pairOf};
+ghost use Rattle.history.specs.States.{pastOf, Legal};
+ghost use Rattle.history.specs.Steps.{Slices, pastWith};
+ghost use Rattle.generator.specs.Generating.{sentFrom, GeneratorNext};
+ghost use Rattle.generator.specs.Answers.{rangeReply, sendingReply};
+ghost use Rattle.generator.specs.Promises.{GeneratorOpened, GeneratorTicked, GeneratorLooked};
+ghost use Rattle.generator.specs.Steps.{Limited, Small, Shows, ChoosesWhere, AddsSent};
+
+pub struct Generator {
+    pub history: History,
+}
+
+pub struct Opened {
+    pub opening: Opening,
+    pub state: Generator,
+}
+
+// What a look at the range shows.
+pub enum Admissible {
+    // The smallest and the largest count that can be sent.
+    Range { lo: u32, hi: u32 },
+    // 12: the state has no legal horizon, a figure above 16,776,960, or as many held ticks as its horizon or more.
+    BadState,
+    // 13: no count keeps every window that ends at the next tick.
+    NoCount,
+}
+
+pub enum Sending {
+    Sent { count: u32 },
+    // 12 and 13, as above.
+    BadState,
+    NoCount,
+}
+
+pub struct Sent {
+    pub sending: Sending,
+    pub next: Generator,
+}
+
+// The counts from `lo` to before `end`; none where `end` is not above `lo`.
+struct Limits {
+    lo: u64,
+    end: u64,
+}
+
+impl Generator {
+    // A generator on the pair of `ceilings` and `leasts`, entry 0 for the window of one tick.
+    pub fn open(ceilings: &[u32], leasts: &[u32]) -> Opened
+        ensures { λ r. ⌜ GeneratorOpened (pairOf (now (ceilings .entry)) (now (leasts .entry))) r ⌝ }
+    {
+        let start = History::open(ceilings, leasts);
+        let opening = start.opening;
+        let history = start.history;
+        Opened {
+            opening,
+            state: Generator { history },
+        }
+    }
+
+    // Sends the count that the choice leads to.
+    pub fn tick(self, choice: u32) -> Sent
+        ensures { λ r. ⌜ GeneratorTicked self choice r ⌝ }
+    {
+        let admissible = self.range();
+        let sending = choose(admissible, choice);
+        let next = advance(self, sending);
+        Sent { sending, next }
+    }
+
+    // Shows the range of counts that the next tick can send.
+    pub fn range(self) -> Admissible
+        ensures { λ r. ⌜ GeneratorLooked self r ⌝ }
+    {
+        if !self.history.is_legal() {
+            return Admissible::BadState;
+        }
+        show(find_limits(self.history))
+    }
+}
+
+// The counts of the next tick, from their limits.
+fn show(limits: Limits) -> Admissible
+    requires { ⌜ Small limits ⌝ }
+    ensures { λ r. ⌜ Shows limits r ⌝ }
+{
+    let lo = limits.lo;
+    let end = limits.end;
+    if end <= lo {
+        return Admissible::NoCount;
+    }
+    let hi = end - 1;
+    Admissible::Range {
+        lo: lo as u32,
+        hi: hi as u32,
+    }
+}
+
+// The count that the choice leads to.
+fn choose(admissible: Admissible, choice: u32) -> Sending
+    requires { ⌜ ChoosesWhere admissible ⌝ }
+    ensures { λ r. ⌜ sendingReply r ≡ sentFrom (rangeReply admissible) choice ⌝ }
+{
+    match admissible {
+        Admissible::Range { lo, hi } => Sending::Sent {
+            count: lo + choice % (hi - lo + 1),
+        },
+        Admissible::BadState => Sending::BadState,
+        Admissible::NoCount => Sending::NoCount,
+    }
+}
+
+// The next state.
+fn advance(generator: Generator, sending: Sending) -> Generator
+    requires { ⌜ AddsSent sending (pastOf (generator .history)) ⌝ }
+    ensures { λ r. ⌜ GeneratorNext (sendingReply sending) generator r ⌝ }
+{
+    match sending {
+        Sending::Sent { count } => {
+            let history = generator.history.push(count);
+            Generator { history }
+        }
+        Sending::BadState => generator,
+        Sending::NoCount => generator,
+    }
+}
+
+// By what counts of the history: its figures up to the horizon, and its held ticks.
+fn find_limits(history: History) -> Limits
+    requires { ⌜ Legal (pastOf history) ⌝ }
+    ensures { λ r. ⌜ Limited (pastOf history) r ⌝ }
+{
+    let horizon = history.horizon;
+    let held = history.held;
+    let upper = history.upper;
+    let lower = history.lower;
+    let ticks = history.ticks;
+    limit(&upper[..horizon], &lower[..horizon], &ticks[..held])
+}
+
+// Window after window; `sum` has the d ticks before the next one.
+fn limit(upper: &[u32], lower: &[u32], ticks: &[u32]) -> Limits
+    requires { ⌜ Slices (now upper) (now lower) (now ticks) ⌝ }
+    ensures { λ r. ⌜ Limited (pastWith (now (upper .entry)) (now (lower .entry)) (now (ticks .entry))) r ⌝ }
+{
+    let held = ticks.len();
+    let mut lo = lower[0] as u64;
+    let mut end = upper[0] as u64 + 1;
+    let mut sum = 0;
+    let mut d = 0;
+    while d < held {
+        sum += ticks[held - 1 - d] as u64;
+        d += 1;
+        lo = larger(lo, difference(lower[d] as u64, sum));
+        end = smaller(end, difference(upper[d] as u64 + 1, sum));
+    }
+    Limits { lo, end }
+}
+
+fn larger(a: u64, b: u64) -> u64
+    ensures { λ r. ⌜ r ≡ max a b ⌝ }
+{
+    if a < b { b } else { a }
+}
+
+fn smaller(a: u64, b: u64) -> u64
+    ensures { λ r. ⌜ r ≡ min a b ⌝ }
+{
+    if a < b { a } else { b }
+}
+
+// Cut off at 0: a ceiling that the ticks before have passed leaves room for no count, and a least that they have asks for none.
+fn difference(a: u64, b: u64) -> u64
+    ensures { λ r. ⌜ r ≡ a - b ⌝ }
+{
+    if a < b { 0 } else { a - b }
+}

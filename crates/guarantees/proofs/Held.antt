@@ -1,0 +1,42 @@
+-- Of a stream a state holds the last H − 1 ticks, and that is as good as the whole. Assumes nothing.
+use Prim.Native.Nat.{ℕ, suc, _-_, _≤_, _<_}
+use mathlib.Core.Path.{_≡_, sym, ap, _∙_}
+use mathlib.Core.List.{List, []}
+use native.Mathlib.Omega.{arith}
+use lib.ListN.{length}
+use lib.Seq.{drop-nil}
+use Rattle.curves.specs.Pairs.{Pair, horizon}
+use Rattle.curves.specs.Ticks.{then, newest}
+use Rattle.curves.specs.Questions.{result}
+use Rattle.curves.proofs.Asked.{result-from}
+use Rattle.curves.proofs.Verdicts.{length-newest, then-newest, newest-newest}
+use Rattle.history.specs.States.{Past, added, Legal}
+use Rattle.history.specs.Opening.{openingQuestions, opening, fresh}
+
+-- The state after the stream xs.
+abbrev pub heldOf : Pair → List ℕ → Past
+heldOf p xs = record { pair = p; held = newest (horizon p - 1) xs }
+
+pub held-fresh : (p : Pair) → fresh p ≡ heldOf p []
+held-fresh p = ap (λ (ys : List ℕ). record { pair = p; held = ys }) (sym (drop-nil (0 - (horizon p - 1))))
+
+pub held-added : (p : Pair) (xs : List ℕ) (x : ℕ) → added (heldOf p xs) x ≡ heldOf p (then xs x)
+held-added p xs x =
+    ap (λ (ys : List ℕ). record { pair = p; held = ys })
+    (ap (newest n) (then-newest n xs x) ∙ newest-newest (suc n) (then xs x) n (omega arith))
+  where
+    n : ℕ
+    n = horizon p - 1
+
+pub held-legal : (p : Pair) → opening p ≡ result tt → (xs : List ℕ) → Legal (heldOf p xs)
+unfolding opening
+held-legal p o xs =
+    let (ys, e) = result-from (openingQuestions p) _ tt o in
+    record { lengths = ys .0; figures = ys .1 .1 .0; fewer = fewer (ys .0 .0) }
+  where
+    fewer : 1 ≤ horizon p → length (newest (horizon p - 1) xs) < horizon p
+    fewer h = omega (arith, length-newest (horizon p - 1) xs)
+
+pub opened-positive : (p : Pair) → opening p ≡ result tt → 1 ≤ horizon p
+unfolding opening
+opened-positive p o = result-from (openingQuestions p) _ tt o .0 .0 .0

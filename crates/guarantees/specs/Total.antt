@@ -1,0 +1,44 @@
+-- Demand 1 for the monitor and the generator: each refusal stands exactly where its question is the first that is answered no, and
+-- changes no state. Closing, reading, rendering and the report have their own statements, in their crates.
+use Prim.Native.Nat.{ℕ}
+use mathlib.Core.Path.{_≡_}
+use mathlib.Core.List.{[], _∷_}
+use mathlib.Core.Logic.{_↔_}
+use Rattle.curves.specs.Pairs.{Pair}
+use Rattle.curves.specs.Questions.{FirstNo, refusal}
+use Rattle.history.specs.States.{Past, question12}
+use Rattle.history.specs.Opening.{openingQuestions, opening}
+use Rattle.monitor.specs.declared.Monitor.{Monitor}
+use Rattle.monitor.specs.declared.Judgement.{Judgement}
+use Rattle.monitor.specs.Monitoring.{Watch, judging}
+use Rattle.monitor.specs.Answers.{verdictReply}
+use Rattle.monitor.specs.Promises.{MonitorTicked}
+use Rattle.generator.specs.declared.Generator.{Generator}
+use Rattle.generator.specs.declared.Sent.{Sent}
+use Rattle.generator.specs.Generating.{lookQuestions, looking, sending}
+use Rattle.generator.specs.Answers.{sendingReply}
+use Rattle.generator.specs.Promises.{GeneratorTicked}
+
+-- Opening a monitor or a generator: 1, 2, 4.
+abbrev pub OpeningRefused : Type 0
+OpeningRefused = (p : Pair) (n : ℕ) → (opening p ≡ refusal n) ↔ FirstNo (openingQuestions p) n
+
+-- A tick of the monitor: 12, on a failed state too.
+abbrev pub JudgingRefused : Type 0
+JudgingRefused = (w : Watch) (x n : ℕ) → (judging w x ≡ refusal n) ↔ FirstNo (question12 (w .past) ∷ []) n
+
+-- A look at the range, and a tick of the generator: 12, 13.
+abbrev pub LookingRefused : Type 0
+LookingRefused = (v : Past) (n : ℕ) → (looking v ≡ refusal n) ↔ FirstNo (lookQuestions v) n
+
+abbrev pub SendingRefused : Type 0
+SendingRefused = (v : Past) (choice n : ℕ) → (sending v choice ≡ refusal n) ↔ FirstNo (lookQuestions v) n
+
+-- A refused tick hands the very state back.
+abbrev pub RefusedMonitorStays : Type 0
+RefusedMonitorStays =
+    (m : Monitor) (x n : ℕ) (r : Judgement) → MonitorTicked m x r → verdictReply (r .verdict) ≡ refusal n → r .next ≡ m
+
+abbrev pub RefusedGeneratorStays : Type 0
+RefusedGeneratorStays =
+    (g : Generator) (choice n : ℕ) (r : Sent) → GeneratorTicked g choice r → sendingReply (r .sending) ≡ refusal n → r .next ≡ g
