@@ -1,4 +1,4 @@
--- States (document 01, "Monitor and maker"): the part of one that is compared and has an effect, and question 12.
+-- States (document 01, "Monitor and maker"): the view of one, which is all that is compared and has an effect, and question 12.
 use Prim.Native.Nat.{ℕ, _-_, _<_}
 use mathlib.Core.List.{List}
 use mathlib.Core.Logic.{Dec·and}
