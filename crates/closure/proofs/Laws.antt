@@ -5,7 +5,6 @@ use mathlib.Core.Path.{_≡_, refl, sym, ap, _∙_, subst, subst⁻¹, subst₂}
 use mathlib.Core.Bool.{Bool, true, false}
 use mathlib.Core.List.{List, _++_}
 use native.Mathlib.Decide.{decLe}
-use native.Mathlib.Numerals.{add-one}
 use native.Mathlib.Omega.{arith}
 use lib.ListN.{length, getD, set, take, drop, length-set, List·getD-eq-default}
 use lib.Seq.{length-take-le}
@@ -19,11 +18,6 @@ use Rattle.closure.specs.Closing.{maxHorizon, figureLimit}
 use Rattle.closure.specs.Steps.{Bounded, sums, differences, Advanced, Ended, Delivered, EndedWith}
 use Rattle.closure.specs.declared.rounds.Ending.{Ending}
 use Rattle.closure.specs.declared.rounds.Ending.the-variants.{Arrived}
-
--- A figure by its index.
-pub figure-next : (us : List ℕ) (i : ℕ) → getD us i 0 ≡ figure 0 us (i + 1)
-unfolding figure
-figure-next us i = rw add-one
 
 pub figure-bounded : (us : List ℕ) → Bounded us → (d : ℕ) → figure 0 us d ≤ figureLimit
 unfolding figure

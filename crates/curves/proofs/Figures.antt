@@ -3,6 +3,7 @@
 use Prim.Native.Nat.{ℕ, zero, suc, _+_, _-_, _≤_, _<_}
 use mathlib.Core.Path.{_≡_, refl, sym, ap, _∙_, subst₂}
 use mathlib.Core.List.{List}
+use native.Mathlib.Numerals.{add-one}
 use native.Mathlib.Omega.{arith}
 use lib.ListN.{length, getD}
 use lib.Seq.{ext-getD}
@@ -22,6 +23,11 @@ pub figure-entry : {N : Type 0} (z : N) (us : List N) (d : ℕ) → 1 ≤ d → 
 unfolding figure
 figure-entry z us zero p = absurd (omega arith)
 figure-entry z us (suc d) p = let e : suc d - 1 ≡ d = omega arith in rw e
+
+-- The same by the place.
+pub figure-next : (us : List ℕ) (i : ℕ) → getD us i 0 ≡ figure 0 us (i + 1)
+unfolding figure
+figure-next us i = rw add-one
 
 -- A pair with as many leasts as ceilings is its own figures.
 pub given-self : (p : Pair) → length (p .lower) ≡ length (p .upper) → given cutOff p ≡ p

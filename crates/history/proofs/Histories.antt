@@ -27,11 +27,6 @@ use Rattle.history.specs.Answers.{openingReply}
 use Rattle.history.specs.Promises.{Room}
 use Rattle.history.specs.Steps.{BeginsWhere, Fits, paddedTo, moved, pastWith}
 
--- A figure by its index.
-pub figure-next : (us : List ℕ) (i : ℕ) → getD us i 0 ≡ figure 0 us (i + 1)
-unfolding figure
-figure-next us i = rw add-one
-
 -- ---- the largest figure
 abbrev pub most : List ℕ → ℕ
 most us = fold max 0 (figure 0 us) (length us)
@@ -86,10 +81,10 @@ entries-take n xs h =
 
 module _ (s : History) where
   -- A view has as many figures and held ticks as the two fields say.
-  pub horizon-seen : horizon (pastOf s .pair) ≡ s .horizon
+  horizon-seen : horizon (pastOf s .pair) ≡ s .horizon
   horizon-seen = length-table (figure 0 (s .upper)) (s .horizon)
 
-  pub held-seen : length (pastOf s .held) ≡ s .held
+  held-seen : length (pastOf s .held) ≡ s .held
   held-seen = length-table (figure 0 (s .ticks)) (s .held)
 
   -- What question 12 says of the sizes.
@@ -100,11 +95,7 @@ module _ (s : History) where
     omega (arith, horizon-seen, held-seen, l .fewer),
   )
 
-  -- There is a place for one tick more.
-  pub room-held : Room s → s .held < maxHorizon
-  room-held r = omega (arith, r .within, r .fewer)
-
-  -- What it says of the figures, where the arrays have one for each window up to the horizon.
+  -- And of the figures, where the arrays have one for each window up to the horizon.
   module _ (u : s .horizon ≤ length (s .upper)) (v : s .horizon ≤ length (s .lower)) where
     abbrev uppers : List ℕ
     uppers = take (s .horizon) (s .upper)
@@ -132,6 +123,10 @@ module _ (s : History) where
         }
 
 -- ---- a tick more
+-- There is a place for it.
+pub room-held : (s : History) → Room s → s .held < maxHorizon
+room-held s r = omega (arith, r .within, r .fewer)
+
 -- It is stored behind the held ones.
 entries-then : (n x : ℕ) (xs : List ℕ) → n < length xs → entries (n + 1) (set xs n x) ≡ then (entries n xs) x
 entries-then n x xs l =

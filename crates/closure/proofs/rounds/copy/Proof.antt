@@ -7,7 +7,8 @@ use borrow.Author.Needs.{needs}
 use lib.ListN.{length}
 use Rattle.curves.specs.Pairs.{figure}
 use Rattle.laws.proofs.Table.{Filled, unfilled, stored, filled}
-use Rattle.closure.proofs.Laws.{figure-next, table-figures}
+use Rattle.curves.proofs.Figures.{figure-next}
+use Rattle.closure.proofs.Laws.{table-figures}
 use Rattle.closure.proofs.rounds.copy.Statement.{statement}
 use Rattle.closure.proofs.rounds.copy.Tie as tie
 
