@@ -3,15 +3,15 @@
 use Prim.Native.Nat.{ℕ, zero, suc, _+_, _-_, _≤_, _<_}
 use mathlib.Core.Path.{_≡_, refl, sym, ap, _∙_, subst, subst⁻¹, subst₂}
 use mathlib.Core.Bool.{Bool, true, false}
-use mathlib.Core.List.{List, _++_}
+use mathlib.Core.List.{List}
 use native.Mathlib.Decide.{decLe}
 use native.Mathlib.Omega.{arith}
-use lib.ListN.{length, getD, set, take, drop, length-set, List·getD-eq-default}
+use lib.ListN.{length, getD, take, List·getD-eq-default}
 use lib.Seq.{length-take-le}
 use Rattle.laws.specs.Ranges.{fold, table}
 use Rattle.laws.specs.Tests.{Tells}
 use Rattle.laws.proofs.Best.{fold-turn}
-use Rattle.laws.proofs.Table.{fill-turn, fill-done, table-self}
+use Rattle.laws.proofs.Table.{table-self}
 use Rattle.curves.specs.Pairs.{Pair, figure, pairOf}
 use Rattle.curves.specs.Rounds.{cutOff, newFigure, round, Crossed, Arrives, Crosses}
 use Rattle.closure.specs.Closing.{maxHorizon, figureLimit}
