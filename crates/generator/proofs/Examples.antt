@@ -9,7 +9,7 @@ use Rattle.curves.specs.Streams.{sum}
 use Rattle.curves.specs.Pairs.{Pair, pairOf, figure}
 use Rattle.curves.specs.Questions.{ask, result}
 use Rattle.curves.proofs.NextTick.{range-from, range?}
-use Rattle.history.specs.States.{Past, legal?}
+use Rattle.history.specs.States.{View, legal?}
 use Rattle.generator.specs.Generating.{looking}
 use Rattle.generator.specs.Runs.{sendings}
 
@@ -17,7 +17,7 @@ abbrev pair : Pair
 pair = pairOf (2 ∷ 3 ∷ 5 ∷ 5 ∷ []) (0 ∷ 0 ∷ 1 ∷ 3 ∷ [])
 
 -- Held: 2, 1.
-abbrev some : Past
+abbrev some : View
 some = record { pair = pair; held = 2 ∷ 1 ∷ [] }
 
 -- From lo 0 to hi 2 the choice 5 sends 2, its remainder by 3; then there is only 0 to send.

@@ -15,7 +15,7 @@ use Rattle.curves.specs.Questions.{result}
 use Rattle.curves.proofs.NextTick.{last-none, last-more, length-then, last-next, range-from, no-range}
 use Rattle.curves.proofs.Verdicts.{KeptTo, kept-none, kept-more}
 use Rattle.closure.specs.Closing.{figureLimit}
-use Rattle.history.specs.States.{Past, Legal}
+use Rattle.history.specs.States.{View, Legal}
 use Rattle.history.specs.Steps.{Slices}
 use Rattle.history.proofs.Slicing.{judged-next}
 use Rattle.generator.specs.declared.Admissible.{Admissible}
@@ -118,7 +118,7 @@ pub chosen-below : (lo hi choice : ℕ) → lo ≤ hi → lo + choice % (hi - lo
 chosen-below lo hi choice h = omega (arith, chosen-is lo hi choice, chosen-within (bounds lo hi) choice h .1)
 
 -- ---- what a look answers
-module _ (v : Past) (L : Legal v) (l : Limits) (b : Limited v l) where
+module _ (v : View) (L : Legal v) (l : Limits) (b : Limited v l) where
   -- Where there is a count, the largest is within the limit, and so are all.
   pub limits-small : Small l
   limits-small h =
@@ -135,7 +135,7 @@ module _ (v : Past) (L : Legal v) (l : Limits) (b : Limited v l) where
   shown-looks admissible.NoCount none = sym (looking-none v L (no-range (v .pair) (v .held) (l .lo) (l .end) b none))
 
 -- A range that a look shows has a count, and none above the limit.
-pub chooses-where : (v : Past) (a : Admissible) → rangeReply a ≡ looking v → ChoosesWhere a
+pub chooses-where : (v : View) (a : Admissible) → rangeReply a ≡ looking v → ChoosesWhere a
 chooses-where v (admissible.Range lo hi) e =
     let (l, shown) = looking-from v (bounds lo hi) (sym e) in
     let (r, is) = shown in
@@ -146,7 +146,7 @@ chooses-where v admissible.BadState e = tt
 chooses-where v admissible.NoCount e = tt
 
 -- A count is sent only where the state has its form.
-pub adds-sent : (v : Past) (choice : ℕ) (s : Sending) → sendingReply s ≡ sending v choice → AddsSent s v
+pub adds-sent : (v : View) (choice : ℕ) (s : Sending) → sendingReply s ≡ sending v choice → AddsSent s v
 adds-sent v choice (sends.Sent x) e =
     let (b, shown, is) = sent-from v choice x (sym e) in looking-from v b shown .0
 adds-sent v choice sends.BadState e = tt

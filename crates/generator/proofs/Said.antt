@@ -1,4 +1,4 @@
--- What the operations answer, case by case, and what counts of the states that they hand back. Assumes nothing.
+-- What the operations answer, case by case, and the views of the states that they hand back. Assumes nothing.
 use Prim.Native.Nat.{ℕ, suc, _-_, _≤_, _<_, _%_}
 use mathlib.Core.Path.{_≡_, refl, sym, ap}
 use mathlib.Core.Logic.{inl, inr}
@@ -9,40 +9,40 @@ use Rattle.curves.specs.Questions.{Reply, result, refusal}
 use Rattle.curves.proofs.Asked.{said-no, said-yes, no-refusal, same-result, result-from}
 use Rattle.curves.proofs.NextTick.{last-none, length-then, last-next, range-once}
 use Rattle.closure.specs.Closing.{figureLimit}
-use Rattle.history.specs.States.{Past, pastOf, Legal}
+use Rattle.history.specs.States.{View, viewOf, Legal}
 use Rattle.generator.specs.declared.Generator.{Generator}
 use Rattle.generator.specs.declared.Sent.{Sent}
 use Rattle.generator.specs.Generating.{lookQuestions, Bounds, looking, chosen, sentFrom, sending, GeneratorNext}
 use Rattle.generator.specs.Promises.{GeneratorTicked}
-use Rattle.generator.specs.Runs.{pastAfter}
+use Rattle.generator.specs.Runs.{viewAfter}
 
 -- ---- a look and a tick
 abbrev pub bounds : ℕ → ℕ → Bounds
 bounds a b = record { lo = a; hi = b }
 
-pub looking-bad : (v : Past) → ¬ Legal v → looking v ≡ refusal 12
+pub looking-bad : (v : View) → ¬ Legal v → looking v ≡ refusal 12
 unfolding looking
 looking-bad v n = said-no _ _ _ 12 (inl (refl, n))
 
-pub looking-range : (v : Past) → Legal v → (r : Range (v .pair) (v .held)) → looking v ≡ result (bounds (r .lo) (r .hi))
+pub looking-range : (v : View) → Legal v → (r : Range (v .pair) (v .held)) → looking v ≡ result (bounds (r .lo) (r .hi))
 unfolding looking
 looking-range v l r = said-yes (lookQuestions v) _ refusal _ (l, (r, tt)) (λ ys. same (ys .1 .0))
   where
     same : (s : Range (v .pair) (v .held)) → result (bounds (s .lo) (s .hi)) ≡ result (bounds (r .lo) (r .hi))
     same s = let (a, b) = range-once (v .pair) (v .held) s r in λ i. result (bounds (a i) (b i))
 
-pub looking-none : (v : Past) → Legal v → ¬ Range (v .pair) (v .held) → looking v ≡ refusal 13
+pub looking-none : (v : View) → Legal v → ¬ Range (v .pair) (v .held) → looking v ≡ refusal 13
 unfolding looking
 looking-none v l n = said-no (lookQuestions v) _ refusal 13 (inr (l, inl (refl, n)))
 
 -- A look that shows bounds shows those of the range.
-pub looking-from : (v : Past) (b : Bounds) → looking v ≡ result b
+pub looking-from : (v : View) (b : Bounds) → looking v ≡ result b
     → Legal v × ((r : Range (v .pair) (v .held)) × (bounds (r .lo) (r .hi) ≡ b))
 unfolding looking
 looking-from v b e = let (ys, s) = result-from (lookQuestions v) _ b e in (ys .0, (ys .1 .0, s))
 
 -- The window of the next tick alone bounds its count.
-pub count-limited : (v : Past) → Legal v → (x : ℕ) → Keeps (v .pair) (then (v .held) x) → x ≤ figureLimit
+pub count-limited : (v : View) → Legal v → (x : ℕ) → Keeps (v .pair) (then (v .held) x) → x ≤ figureLimit
 count-limited v l x k =
     omega (
       arith,
@@ -60,7 +60,7 @@ chosen-within b choice l =
     let m : choice % suc (b .hi - b .lo) < suc (b .hi - b .lo) = mod-lt choice {m = suc (b .hi - b .lo)} (omega arith) in
     (omega arith, omega arith)
 
-pub sent-from : (v : Past) (choice x : ℕ) → sending v choice ≡ result x → (b : Bounds) × (looking v ≡ result b) × (chosen b choice ≡ x)
+pub sent-from : (v : View) (choice x : ℕ) → sending v choice ≡ result x → (b : Bounds) × (looking v ≡ result b) × (chosen b choice ≡ x)
 sent-from v choice x = go (looking v)
   where
     go : (a : Reply Bounds) → sentFrom a choice ≡ result x → (b : Bounds) × (a ≡ result b) × (chosen b choice ≡ x)
@@ -69,9 +69,9 @@ sent-from v choice x = go (looking v)
 
 -- ---- next states
 pub generator-next : (g : Generator) (choice : ℕ) (r : Sent) → GeneratorTicked g choice r
-    → pastOf (r .next .history) ≡ pastAfter (sending (pastOf (g .history)) choice) (pastOf (g .history))
-generator-next g choice r t = go (sending (pastOf (g .history)) choice) (t .next)
+    → viewOf (r .next .history) ≡ viewAfter (sending (viewOf (g .history)) choice) (viewOf (g .history))
+generator-next g choice r t = go (sending (viewOf (g .history)) choice) (t .next)
   where
-    go : (a : Reply ℕ) → GeneratorNext a g (r .next) → pastOf (r .next .history) ≡ pastAfter a (pastOf (g .history))
+    go : (a : Reply ℕ) → GeneratorNext a g (r .next) → viewOf (r .next .history) ≡ viewAfter a (viewOf (g .history))
     go (result x) e = e
-    go (refusal n) e = ap (λ (k : Generator). pastOf (k .history)) e
+    go (refusal n) e = ap (λ (k : Generator). viewOf (k .history)) e

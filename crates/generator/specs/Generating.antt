@@ -5,14 +5,14 @@ use mathlib.Core.List.{List, [], _∷_}
 use Rattle.curves.specs.Ticks.{Range}
 use Rattle.curves.specs.Questions.{Question, Reply, result, refusal, replyTo}
 use Rattle.curves.proofs.NextTick.{range?}
-use Rattle.history.specs.States.{Past, pastOf, added, question12}
+use Rattle.history.specs.States.{View, viewOf, added, question12}
 use Rattle.generator.specs.declared.Generator.{Generator}
 
 -- 13. Some count keeps every judged window: there is an admissible range.
-abbrev pub question13 : Past → Question
+abbrev pub question13 : View → Question
 question13 v = record { number = 13; asked = Range (v .pair) (v .held); answered = range? (v .pair) (v .held) }
 
-abbrev pub lookQuestions : Past → List Question
+abbrev pub lookQuestions : View → List Question
 lookQuestions v = question12 v ∷ question13 v ∷ []
 
 -- The smallest and the largest count that can be sent.
@@ -20,7 +20,7 @@ pub record Bounds : Type 0 where
   pub lo : ℕ
   pub hi : ℕ
 
-unfoldable pub looking : Past → Reply Bounds
+unfoldable pub looking : View → Reply Bounds
 looking v = replyTo (lookQuestions v) (λ yeses. let r : Range (v .pair) (v .held) = yeses .1 .0 in record { lo = r .lo; hi = r .hi })
 
 -- The count that a choice leads to: lo and the remainder of the choice by hi − lo + 1.
@@ -31,10 +31,10 @@ abbrev pub sentFrom : Reply Bounds → ℕ → Reply ℕ
 sentFrom (result b) choice = result (chosen b choice)
 sentFrom (refusal n) choice = refusal n
 
-abbrev pub sending : Past → ℕ → Reply ℕ
+abbrev pub sending : View → ℕ → Reply ℕ
 sending v choice = sentFrom (looking v) choice
 
 -- The next state. A count that is sent is added, and what lies outside the next state's view is free; a refusal leaves the very state.
 abbrev pub GeneratorNext : Reply ℕ → Generator → Generator → Type 0
-GeneratorNext (result x) g next = pastOf (next .history) ≡ added (pastOf (g .history)) x
+GeneratorNext (result x) g next = viewOf (next .history) ≡ added (viewOf (g .history)) x
 GeneratorNext (refusal n) g next = next ≡ g

@@ -2,7 +2,7 @@
 use Prim.Native.Nat.{ℕ}
 use mathlib.Core.Path.{_≡_}
 use Rattle.curves.specs.Pairs.{Pair}
-use Rattle.history.specs.States.{pastOf}
+use Rattle.history.specs.States.{viewOf}
 use Rattle.history.specs.Opening.{opening, Begun}
 use Rattle.history.specs.Answers.{openingReply}
 use Rattle.generator.specs.declared.Generator.{Generator}
@@ -17,9 +17,9 @@ pub record GeneratorOpened (p : Pair) (r : Opened) : Type 0 where
   pub history : Begun (opening p) p (r .state .history)
 
 pub record GeneratorTicked (g : Generator) (choice : ℕ) (r : Sent) : Type 0 where
-  pub answer : sendingReply (r .sending) ≡ sending (pastOf (g .history)) choice
-  pub next : GeneratorNext (sending (pastOf (g .history)) choice) g (r .next)
+  pub answer : sendingReply (r .sending) ≡ sending (viewOf (g .history)) choice
+  pub next : GeneratorNext (sending (viewOf (g .history)) choice) g (r .next)
 
 -- A look has no state to hand back: the caller keeps the one given.
 abbrev pub GeneratorLooked : Generator → Admissible → Type 0
-GeneratorLooked g r = rangeReply r ≡ looking (pastOf (g .history))
+GeneratorLooked g r = rangeReply r ≡ looking (viewOf (g .history))

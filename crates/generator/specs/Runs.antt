@@ -2,7 +2,7 @@
 use Prim.Native.Nat.{ℕ}
 use mathlib.Core.List.{List, [], _∷_, _++_}
 use Rattle.curves.specs.Questions.{Reply, result, refusal}
-use Rattle.history.specs.States.{Past, added}
+use Rattle.history.specs.States.{View, added}
 use Rattle.generator.specs.declared.Generator.{Generator}
 use Rattle.generator.specs.declared.Admissible.{Admissible}
 use Rattle.generator.specs.declared.Sent.{Sent}
@@ -10,20 +10,20 @@ use Rattle.generator.specs.Generating.{sending}
 use Rattle.generator.specs.Answers.{sendingReply}
 use Rattle.generator.specs.Promises.{GeneratorTicked, GeneratorLooked}
 
--- ---- by what counts of a state
-abbrev pub pastAfter : Reply ℕ → Past → Past
-pastAfter (result x) v = added v x
-pastAfter (refusal n) v = v
+-- ---- by the view of a state
+abbrev pub viewAfter : Reply ℕ → View → View
+viewAfter (result x) v = added v x
+viewAfter (refusal n) v = v
 
 -- After ticks that sent these counts.
-unfoldable pub addedAll : Past → List ℕ → Past
+unfoldable pub addedAll : View → List ℕ → View
 addedAll v [] = v
 addedAll v (x ∷ xs) = addedAll (added v x) xs
 
 -- What the ticks of a list of choices are answered.
-unfoldable pub sendings : Past → List ℕ → List (Reply ℕ)
+unfoldable pub sendings : View → List ℕ → List (Reply ℕ)
 sendings v [] = []
-sendings v (choice ∷ choices) = sending v choice ∷ sendings (pastAfter (sending v choice) v) choices
+sendings v (choice ∷ choices) = sending v choice ∷ sendings (viewAfter (sending v choice) v) choices
 
 -- ---- any results that the promises allow
 -- A call: a tick with its choice, or a look; and what came back.

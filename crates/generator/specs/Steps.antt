@@ -4,7 +4,7 @@ use mathlib.Core.Path.{_≡_}
 use mathlib.Core.Logic.{_↔_}
 use Rattle.curves.specs.Ticks.{then, Keeps}
 use Rattle.closure.specs.Closing.{figureLimit}
-use Rattle.history.specs.States.{Past, Legal}
+use Rattle.history.specs.States.{View, Legal}
 use Rattle.generator.specs.declared.Admissible.{Admissible}
 use Rattle.generator.specs.declared.Admissible.the-variants as admissible
 use Rattle.generator.specs.declared.Sending.{Sending}
@@ -12,13 +12,13 @@ use Rattle.generator.specs.declared.Sending.the-variants as sending
 use Rattle.generator.specs.declared.Limits.{Limits}
 
 -- The state's form matters where a count is sent.
-abbrev pub AddsSent : Sending → Past → Type 0
+abbrev pub AddsSent : Sending → View → Type 0
 AddsSent (sending.Sent x) v = Legal v
 AddsSent sending.BadState v = Unit {0}
 AddsSent sending.NoCount v = Unit {0}
 
 -- The counts that the next tick can have are those from lo to before end.
-abbrev pub Limited : Past → Limits → Type 0
+abbrev pub Limited : View → Limits → Type 0
 Limited v r = (x : ℕ) → Keeps (v .pair) (then (v .held) x) ↔ ((r .lo ≤ x) × (x < r .end))
 
 -- Where there is such a count, all are within the limit of figures.

@@ -5,8 +5,8 @@ use history::Opening;
 ghost use mathlib.Core.Path.{_≡_};
 ghost use Prim.Native.Nat.{min, max, _-_};
 ghost use Rattle.curves.specs.Pairs.{pairOf};
-ghost use Rattle.history.specs.States.{pastOf, Legal};
-ghost use Rattle.history.specs.Steps.{Slices, pastWith};
+ghost use Rattle.history.specs.States.{viewOf, Legal};
+ghost use Rattle.history.specs.Steps.{Slices, viewWith};
 ghost use Rattle.generator.specs.Generating.{sentFrom, GeneratorNext};
 ghost use Rattle.generator.specs.Answers.{rangeReply, sendingReply};
 ghost use Rattle.generator.specs.Promises.{GeneratorOpened, GeneratorTicked, GeneratorLooked};
@@ -117,7 +117,7 @@ fn choose(admissible: Admissible, choice: u32) -> Sending
 
 // The next state.
 fn advance(generator: Generator, sending: Sending) -> Generator
-    requires { ⌜ AddsSent sending (pastOf (generator .history)) ⌝ }
+    requires { ⌜ AddsSent sending (viewOf (generator .history)) ⌝ }
     ensures { λ r. ⌜ GeneratorNext (sendingReply sending) generator r ⌝ }
 {
     match sending {
@@ -130,10 +130,10 @@ fn advance(generator: Generator, sending: Sending) -> Generator
     }
 }
 
-// By what counts of the history: its figures up to the horizon, and its held ticks.
+// By the view of the history: its figures up to the horizon, and its held ticks.
 fn find_limits(history: History) -> Limits
-    requires { ⌜ Legal (pastOf history) ⌝ }
-    ensures { λ r. ⌜ Limited (pastOf history) r ⌝ }
+    requires { ⌜ Legal (viewOf history) ⌝ }
+    ensures { λ r. ⌜ Limited (viewOf history) r ⌝ }
 {
     let horizon = history.horizon;
     let held = history.held;
@@ -146,7 +146,7 @@ fn find_limits(history: History) -> Limits
 // Window after window; `sum` has the d ticks before the next one.
 fn limit(upper: &[u32], lower: &[u32], ticks: &[u32]) -> Limits
     requires { ⌜ Slices (now upper) (now lower) (now ticks) ⌝ }
-    ensures { λ r. ⌜ Limited (pastWith (now (upper .entry)) (now (lower .entry)) (now (ticks .entry))) r ⌝ }
+    ensures { λ r. ⌜ Limited (viewWith (now (upper .entry)) (now (lower .entry)) (now (ticks .entry))) r ⌝ }
 {
     let held = ticks.len();
     let mut lo = lower[0] as u64;

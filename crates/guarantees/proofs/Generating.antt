@@ -15,10 +15,10 @@ use Rattle.curves.specs.Questions.{Reply, result, refusal}
 use Rattle.curves.proofs.Asked.{no-refusal}
 use Rattle.curves.proofs.NextTick.{conforms-start, conforms-keeps, keeps-conforms, keeps-has-range, range-whole}
 use Rattle.curves.proofs.Verdicts.{keeps-newest}
-use Rattle.history.specs.States.{Past, Legal}
+use Rattle.history.specs.States.{View, Legal}
 use Rattle.history.specs.Opening.{opening}
 use Rattle.generator.specs.Generating.{Bounds, looking, chosen, sentFrom, sending}
-use Rattle.generator.specs.Runs.{pastAfter, sendings, ticked, looked, choicesOf}
+use Rattle.generator.specs.Runs.{viewAfter, sendings, ticked, looked, choicesOf}
 use Rattle.generator.proofs.Said.{bounds, looking-range, looking-none, looking-from, count-limited, chosen-within, sent-from}
 use Rattle.generator.proofs.Said.{generator-next}
 use Rattle.guarantees.specs.Exact.{Passes, Extremes, SendsIffPasses, NoCountIffNonePasses, LookShowsExtremes, SendsConforming}
@@ -28,7 +28,7 @@ use Rattle.guarantees.proofs.Held.{heldOf, held-fresh, held-added, held
 use Rattle.guarantees.proofs.Monitoring.{answers-right}
 
 -- ---- on a legal history
-module _ (v : Past) (l : Legal v) where
+module _ (v : View) (l : Legal v) where
   passes-iff : (x : ℕ) → Passes v x ↔ Keeps (v .pair) (then (v .held) x)
   passes-iff x = answers-right v x l passed
 
@@ -109,8 +109,8 @@ module _ (p : Pair) (o : opening p ≡ result tt) where
   keeps-held xs x = keeps-newest p (horizon p - 1) xs (omega (arith, opened-positive p o)) x
 
   pub sent-on : (xs : List ℕ) (choice x : ℕ) → sending (heldOf p xs) choice ≡ result x
-      → pastAfter (sending (heldOf p xs) choice) (heldOf p xs) ≡ heldOf p (then xs x)
-  sent-on xs choice x e = ap (λ a. pastAfter a (heldOf p xs)) e ∙ held-added p xs x
+      → viewAfter (sending (heldOf p xs) choice) (heldOf p xs) ≡ heldOf p (then xs x)
+  sent-on xs choice x e = ap (λ a. viewAfter a (heldOf p xs)) e ∙ held-added p xs x
 
   pub sent-conforms : (xs : List ℕ) (choice x : ℕ) → Conforms p xs → sending (heldOf p xs) choice ≡ result x → Conforms p (then xs x)
   sent-conforms xs choice x c e =
@@ -140,7 +140,7 @@ module _ (p : Pair) (o : opening p ≡ result tt) where
   sent-conforming (choice ∷ choices) ys [] c e = absurd (omega (arith, ap length e))
   sent-conforming (choice ∷ choices) ys (x ∷ xs) c e =
       let h : sending (heldOf p ys) choice ≡ result x = ap (headOr (result x)) e in
-      let t : sendings (pastAfter (sending (heldOf p ys) choice) (heldOf p ys)) choices ≡ map result xs = ap rest e in
+      let t : sendings (viewAfter (sending (heldOf p ys) choice) (heldOf p ys)) choices ≡ map result xs = ap rest e in
       subst (Conforms p) (append-assoc ys (x ∷ []) xs)
       (sent-conforming choices (then ys x) xs (sent-conforms ys choice x c h)
       (sym (ap (λ v. sendings v choices) (sent-on ys choice x h)) ∙ t))
@@ -161,11 +161,11 @@ sends-conforming p o xs = (
       (subst (λ v. sendings v (s .0) ≡ map result xs) (held-fresh p) (s .2))),
 )
 
--- ---- what counts of a state
+-- ---- only the view of a state has an effect
 pub equal-generators-agree : EqualGeneratorsAgree
 equal-generators-agree g g′ choice r r′ e t t′ = (
   t .answer ∙ ap (λ v. sending v choice) e ∙ sym (t′ .answer),
-  generator-next g choice r t ∙ ap (λ v. pastAfter (sending v choice) v) e ∙ sym (generator-next g′ choice r′ t′),
+  generator-next g choice r t ∙ ap (λ v. viewAfter (sending v choice) v) e ∙ sym (generator-next g′ choice r′ t′),
 )
 
 pub equal-generators-show : EqualGeneratorsShow

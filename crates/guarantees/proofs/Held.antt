@@ -10,11 +10,11 @@ use Rattle.curves.specs.Ticks.{then, newest}
 use Rattle.curves.specs.Questions.{result}
 use Rattle.curves.proofs.Asked.{result-from}
 use Rattle.curves.proofs.Verdicts.{length-newest, then-newest, newest-newest}
-use Rattle.history.specs.States.{Past, added, Legal}
+use Rattle.history.specs.States.{View, added, Legal}
 use Rattle.history.specs.Opening.{openingQuestions, opening, fresh}
 
 -- The state after the stream xs.
-abbrev pub heldOf : Pair → List ℕ → Past
+abbrev pub heldOf : Pair → List ℕ → View
 heldOf p xs = record { pair = p; held = newest (horizon p - 1) xs }
 
 pub held-fresh : (p : Pair) → fresh p ≡ heldOf p []

@@ -14,12 +14,12 @@ use Rattle.curves.proofs.Closure.{one-more-tick}
 use Rattle.curves.proofs.Verdicts.{range-newest}
 use Rattle.closure.specs.Theorems.{GivesClosure, closureOf}
 use Rattle.closure.proofs.Promised.{given-passes, given-is-causal, conforms-iff-begins}
-use Rattle.history.specs.States.{pastOf}
+use Rattle.history.specs.States.{viewOf}
 use Rattle.history.specs.Opening.{openingQuestions, opening, Begun}
 use Rattle.generator.specs.declared.Generator.{Generator}
 use Rattle.generator.specs.Generating.{Bounds, looking, chosen, sentFrom, sending}
 use Rattle.generator.specs.Answers.{sendingReply}
-use Rattle.generator.specs.Runs.{pastAfter, Call, ticked, looked, Calls, countOf, countsSent}
+use Rattle.generator.specs.Runs.{viewAfter, Call, ticked, looked, Calls, countOf, countsSent}
 use Rattle.generator.proofs.Said.{bounds, looking-range, generator-next}
 use Rattle.guarantees.specs.NeverStuck.{OpensOnClosure, NotRefused, NeverStuck, PassesIffHasFuture}
 use Rattle.guarantees.proofs.Held.{heldOf, held-fresh, held-legal, opened-positive}
@@ -45,7 +45,7 @@ module _ (q : Pair) (o : opening q ≡ result tt) (causal : Causal q) where
   sends : (ys : List ℕ) (choice : ℕ) → Conforms q ys → (x : ℕ) × (sending (heldOf q ys) choice ≡ result x)
   sends ys choice c = let (b, e) = shows ys c in (chosen b choice, ap (λ a. sentFrom a choice) e)
 
-  never : (cs : List Call) (ys : List ℕ) (g : Generator) → pastOf (g .history) ≡ heldOf q ys → Conforms q ys → Calls g cs
+  never : (cs : List Call) (ys : List ℕ) (g : Generator) → viewOf (g .history) ≡ heldOf q ys → Conforms q ys → Calls g cs
       → Each NotRefused cs × Conforms q (ys ++ countsSent cs)
   never [] ys g s c t = (tt, subst (Conforms q) (sym (append-nil ys)) c)
   never (looked r ∷ cs) ys g s c (a, t) =
@@ -55,8 +55,8 @@ module _ (q : Pair) (o : opening q ≡ result tt) (causal : Causal q) where
   never (ticked choice r ∷ cs) ys g s c (a, t) =
       let (x, e) = sends ys choice c in
       let said : sendingReply (r .sending) ≡ result x = a .answer ∙ ap (λ v. sending v choice) s ∙ e in
-      let next : pastOf (r .next .history) ≡ heldOf q (then ys x) =
-      generator-next g choice r a ∙ ap (λ v. pastAfter (sending v choice) v) s ∙ sent-on q o ys choice x e in
+      let next : viewOf (r .next .history) ≡ heldOf q (then ys x) =
+      generator-next g choice r a ∙ ap (λ v. viewAfter (sending v choice) v) s ∙ sent-on q o ys choice x e in
       let (all, c′) = never cs (then ys x) (r .next) next (sent-conforms q o ys choice x c e) t in (
         ((x, said), all),
         subst (Conforms q)
@@ -68,7 +68,7 @@ pub never-stuck : NeverStuck
 never-stuck p found g o a cs t =
     let q : Pair = closureOf p found in
     let opened : opening q ≡ result tt = closure-opens p found g in
-    let begun : pastOf (o .state .history) ≡ heldOf q [] = subst (λ r. Begun r q (o .state .history)) opened (a .history) ∙ held-fresh q in
+    let begun : viewOf (o .state .history) ≡ heldOf q [] = subst (λ r. Begun r q (o .state .history)) opened (a .history) ∙ held-fresh q in
     let (all, c) = never q opened (given-is-causal p found g) cs [] (o .state) begun (λ i d u v w. absurd (omega arith)) t in
     (all, conforms-iff-begins p found g (countsSent cs) .0 c)
 

@@ -17,7 +17,7 @@ opening-refused p n = refusal-iff (openingQuestions p) _ n
 
 pub judging-refused : JudgingRefused
 unfolding judging
-judging-refused w x n = refusal-iff (question12 (w .past) ∷ []) _ n
+judging-refused w x n = refusal-iff (question12 (w .view) ∷ []) _ n
 
 pub looking-refused : LookingRefused
 unfolding looking

@@ -10,14 +10,14 @@ use Rattle.curves.specs.Pairs.{Pair}
 use Rattle.curves.specs.Conformance.{Inside, Conforms}
 use Rattle.curves.specs.Ticks.{then, last, Judged, Verdict, passed, Right}
 use Rattle.curves.specs.Questions.{result, refusal}
-use Rattle.history.specs.States.{Past, pastOf, Legal}
+use Rattle.history.specs.States.{View, viewOf, Legal}
 use Rattle.history.specs.Opening.{opening, fresh}
 use Rattle.monitor.specs.declared.Monitor.{Monitor}
 use Rattle.monitor.specs.declared.Judgement.{Judgement}
-use Rattle.monitor.specs.Monitoring.{Watch, watch, watchOf, judged, alreadyFailed, judging}
+use Rattle.monitor.specs.Monitoring.{MonitorView, monitorView, monitorViewOf, judged, alreadyFailed, judging}
 use Rattle.monitor.specs.Answers.{verdictReply}
 use Rattle.monitor.specs.Promises.{MonitorTicked}
-use Rattle.monitor.specs.Runs.{watchedAll, rulings, Tick, Ticks}
+use Rattle.monitor.specs.Runs.{afterTicks, rulings, Tick, Ticks}
 use Rattle.generator.specs.declared.Generator.{Generator}
 use Rattle.generator.specs.declared.Admissible.{Admissible}
 use Rattle.generator.specs.declared.Sent.{Sent}
@@ -27,24 +27,24 @@ use Rattle.generator.specs.Promises.{GeneratorTicked, GeneratorLooked}
 use Rattle.generator.specs.Runs.{sendings, Call, Calls, choicesOf, repliesOf}
 
 -- A monitor that has not failed.
-abbrev pub unfailed : Past → Watch
-unfailed v = watch v false
+abbrev pub unfailed : View → MonitorView
+unfailed v = monitorView v false
 
 -- It passes the count x.
-abbrev pub Passes : Past → ℕ → Type 0
+abbrev pub Passes : View → ℕ → Type 0
 Passes v x = judging (unfailed v) x ≡ result (judged passed)
 
 -- ---- the monitor, in any legal state
 -- It turns a tick down exactly when some window that ends there is outside its figures.
 abbrev pub TurnsDownIffOutside : Type 0
 TurnsDownIffOutside =
-    (v : Past) (x : ℕ) → Legal v
+    (v : View) (x : ℕ) → Legal v
     → (¬ Passes v x) ↔ ((d : ℕ) × Judged (v .pair) (then (v .held) x) d × (¬ Inside (v .pair) d (last (then (v .held) x) d)))
 
 -- It answers the right verdict, which names the shortest such window.
 abbrev pub AnswersRight : Type 0
 AnswersRight =
-    (v : Past) (x : ℕ) → Legal v → (w : Verdict)
+    (v : View) (x : ℕ) → Legal v → (w : Verdict)
     → (judging (unfailed v) x ≡ result (judged w)) ↔ Right (v .pair) (then (v .held) x) w
 
 -- ---- the monitor, freshly opened, over a whole stream
@@ -58,36 +58,36 @@ ConformsIffAllPass = (p : Pair) → opening p ≡ result tt → (xs : List ℕ) 
 abbrev pub RightOfWholeStream : Type 0
 RightOfWholeStream =
     (p : Pair) → opening p ≡ result tt → (xs : List ℕ) → AllPass p xs → (x : ℕ) (w : Verdict)
-    → (judging (watchedAll (unfailed (fresh p)) xs) x ≡ result (judged w)) ↔ Right p (then xs x) w
+    → (judging (afterTicks (unfailed (fresh p)) xs) x ≡ result (judged w)) ↔ Right p (then xs x) w
 
 -- Once a tick is turned down, every later one is answered 'already failed'.
 abbrev pub NothingPassesAfter : Type 0
 NothingPassesAfter =
     (p : Pair) → opening p ≡ result tt → (xs : List ℕ) → AllPass p xs → (x : ℕ) → (¬ AllPass p (then xs x)) → (ys : List ℕ)
-    → Each (λ r. r ≡ result alreadyFailed) (rulings (watchedAll (unfailed (fresh p)) (then xs x)) ys)
+    → Each (λ r. r ≡ result alreadyFailed) (rulings (afterTicks (unfailed (fresh p)) (then xs x)) ys)
 
 -- ---- the generator on the same history
 -- Some choice sends a count exactly when the monitor would pass it.
 abbrev pub SendsIffPasses : Type 0
 SendsIffPasses =
-    (v : Past) → Legal v → (x : ℕ) → ((choice : ℕ) × (choice ≤ countLimit) × (sending v choice ≡ result x)) ↔ Passes v x
+    (v : View) → Legal v → (x : ℕ) → ((choice : ℕ) × (choice ≤ countLimit) × (sending v choice ≡ result x)) ↔ Passes v x
 
 -- A look, and a tick with any choice, are refused with 13 exactly when it would pass none.
 abbrev pub NoCountIffNonePasses : Type 0
 NoCountIffNonePasses =
-    (v : Past) → Legal v
+    (v : View) → Legal v
     → ((looking v ≡ refusal 13) ↔ ((x : ℕ) → ¬ Passes v x))
     × ((choice : ℕ) → (sending v choice ≡ refusal 13) ↔ ((x : ℕ) → ¬ Passes v x))
 
 -- A look shows the smallest and the largest that it would pass.
-pub record Extremes (v : Past) (b : Bounds) : Type 0 where
+pub record Extremes (v : View) (b : Bounds) : Type 0 where
   pub lo-passes : Passes v (b .lo)
   pub hi-passes : Passes v (b .hi)
   pub smallest : (x : ℕ) → Passes v x → b .lo ≤ x
   pub largest : (x : ℕ) → Passes v x → x ≤ b .hi
 
 abbrev pub LookShowsExtremes : Type 0
-LookShowsExtremes = (v : Past) → Legal v → (b : Bounds) → (looking v ≡ result b) ↔ Extremes v b
+LookShowsExtremes = (v : View) → Legal v → (b : Bounds) → (looking v ≡ result b) ↔ Extremes v b
 
 -- From fresh openings the lists of counts that can be sent are the conforming ones.
 abbrev pub SendsConforming : Type 0
@@ -95,30 +95,30 @@ SendsConforming =
     (p : Pair) → opening p ≡ result tt → (xs : List ℕ)
     → Conforms p xs ↔ ((choices : List ℕ) × Each (λ c. c ≤ countLimit) choices × (sendings (fresh p) choices ≡ map result xs))
 
--- ---- what counts of a state
+-- ---- only the view of a state has an effect
 -- Any results that the monitor's promise allows, tick after tick, are those of the rulings.
 abbrev pub TicksAreRulings : Type 0
 TicksAreRulings =
     (m : Monitor) (ts : List Tick) → Ticks m ts
-    → map (λ (t : Tick). verdictReply (t .judgement .verdict)) ts ≡ rulings (watchOf m) (map (λ (t : Tick). t .count) ts)
+    → map (λ (t : Tick). verdictReply (t .judgement .verdict)) ts ≡ rulings (monitorViewOf m) (map (λ (t : Tick). t .count) ts)
 
 -- Likewise of the generator's, whatever looks stand between the ticks.
 abbrev pub CallsAreSendings : Type 0
-CallsAreSendings = (g : Generator) (cs : List Call) → Calls g cs → repliesOf cs ≡ sendings (pastOf (g .history)) (choicesOf cs)
+CallsAreSendings = (g : Generator) (cs : List Call) → Calls g cs → repliesOf cs ≡ sendings (viewOf (g .history)) (choicesOf cs)
 
 -- Equal states get equal answers, and next states that are equal.
 abbrev pub EqualMonitorsAgree : Type 0
 EqualMonitorsAgree =
-    (m m′ : Monitor) (x : ℕ) (r r′ : Judgement) → watchOf m ≡ watchOf m′ → MonitorTicked m x r → MonitorTicked m′ x r′
-    → (verdictReply (r .verdict) ≡ verdictReply (r′ .verdict)) × (watchOf (r .next) ≡ watchOf (r′ .next))
+    (m m′ : Monitor) (x : ℕ) (r r′ : Judgement) → monitorViewOf m ≡ monitorViewOf m′ → MonitorTicked m x r → MonitorTicked m′ x r′
+    → (verdictReply (r .verdict) ≡ verdictReply (r′ .verdict)) × (monitorViewOf (r .next) ≡ monitorViewOf (r′ .next))
 
 abbrev pub EqualGeneratorsAgree : Type 0
 EqualGeneratorsAgree =
-    (g g′ : Generator) (choice : ℕ) (r r′ : Sent) → pastOf (g .history) ≡ pastOf (g′ .history)
+    (g g′ : Generator) (choice : ℕ) (r r′ : Sent) → viewOf (g .history) ≡ viewOf (g′ .history)
     → GeneratorTicked g choice r → GeneratorTicked g′ choice r′
-    → (sendingReply (r .sending) ≡ sendingReply (r′ .sending)) × (pastOf (r .next .history) ≡ pastOf (r′ .next .history))
+    → (sendingReply (r .sending) ≡ sendingReply (r′ .sending)) × (viewOf (r .next .history) ≡ viewOf (r′ .next .history))
 
 abbrev pub EqualGeneratorsShow : Type 0
 EqualGeneratorsShow =
-    (g g′ : Generator) (a a′ : Admissible) → pastOf (g .history) ≡ pastOf (g′ .history) → GeneratorLooked g a → GeneratorLooked g′ a′
+    (g g′ : Generator) (a a′ : Admissible) → viewOf (g .history) ≡ viewOf (g′ .history) → GeneratorLooked g a → GeneratorLooked g′ a′
     → rangeReply a ≡ rangeReply a′

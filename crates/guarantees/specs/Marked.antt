@@ -9,7 +9,7 @@ use Rattle.curves.specs.Questions.{Reply, result, refusal}
 use Rattle.closure.specs.Closing.{refused, closed, closing}
 use Rattle.csv.specs.Text.{Bytes, comma, crlf, header}
 use Rattle.constraints.specs.Theorems.{GivesPair, givenPair}
-use Rattle.history.specs.States.{Past}
+use Rattle.history.specs.States.{View}
 use Rattle.history.specs.Opening.{opening, fresh}
 use Rattle.generator.specs.Generating.{Bounds, looking, sentFrom, sending}
 use Rattle.generator.specs.Runs.{addedAll}
@@ -37,7 +37,7 @@ Holds (closes p n q) =
 Holds (refuses p) =
     (found : Pair) → horizon p ≤ length (found .upper) → horizon p ≤ length (found .lower) → closing p found ≡ refused 5 found
 Holds (goesOn p xs a) =
-    let sent : Past = addedAll (fresh p) xs in
+    let sent : View = addedAll (fresh p) xs in
     (opening p ≡ result tt) × Conforms p xs × (looking sent ≡ a) × ((choice : ℕ) → sending sent choice ≡ sentFrom a choice)
 
 abbrev pub AllHold : List Case → Type 0

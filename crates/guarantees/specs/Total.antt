@@ -6,11 +6,11 @@ use mathlib.Core.List.{[], _∷_}
 use mathlib.Core.Logic.{_↔_}
 use Rattle.curves.specs.Pairs.{Pair}
 use Rattle.curves.specs.Questions.{FirstNo, refusal}
-use Rattle.history.specs.States.{Past, question12}
+use Rattle.history.specs.States.{View, question12}
 use Rattle.history.specs.Opening.{openingQuestions, opening}
 use Rattle.monitor.specs.declared.Monitor.{Monitor}
 use Rattle.monitor.specs.declared.Judgement.{Judgement}
-use Rattle.monitor.specs.Monitoring.{Watch, judging}
+use Rattle.monitor.specs.Monitoring.{MonitorView, judging}
 use Rattle.monitor.specs.Answers.{verdictReply}
 use Rattle.monitor.specs.Promises.{MonitorTicked}
 use Rattle.generator.specs.declared.Generator.{Generator}
@@ -25,14 +25,14 @@ OpeningRefused = (p : Pair) (n : ℕ) → (opening p ≡ refusal n) ↔ FirstNo 
 
 -- A tick of the monitor: 12, on a failed state too.
 abbrev pub JudgingRefused : Type 0
-JudgingRefused = (w : Watch) (x n : ℕ) → (judging w x ≡ refusal n) ↔ FirstNo (question12 (w .past) ∷ []) n
+JudgingRefused = (w : MonitorView) (x n : ℕ) → (judging w x ≡ refusal n) ↔ FirstNo (question12 (w .view) ∷ []) n
 
 -- A look at the range, and a tick of the generator: 12, 13.
 abbrev pub LookingRefused : Type 0
-LookingRefused = (v : Past) (n : ℕ) → (looking v ≡ refusal n) ↔ FirstNo (lookQuestions v) n
+LookingRefused = (v : View) (n : ℕ) → (looking v ≡ refusal n) ↔ FirstNo (lookQuestions v) n
 
 abbrev pub SendingRefused : Type 0
-SendingRefused = (v : Past) (choice n : ℕ) → (sending v choice ≡ refusal n) ↔ FirstNo (lookQuestions v) n
+SendingRefused = (v : View) (choice n : ℕ) → (sending v choice ≡ refusal n) ↔ FirstNo (lookQuestions v) n
 
 -- A refused tick hands the very state back.
 abbrev pub RefusedMonitorStays : Type 0

@@ -21,11 +21,11 @@ use Rattle.closure.specs.Closing.{maxHorizon, figureLimit, question1, question2
 use Rattle.history.specs.declared.History.{History}
 use Rattle.history.specs.declared.Opening.{Opening}
 use Rattle.history.specs.declared.Opening.the-variants.{Opened, UpperLength, LowerLength, FigureLimit}
-use Rattle.history.specs.States.{Past, Legal, pastOf, entries, added}
+use Rattle.history.specs.States.{View, Legal, viewOf, entries, added}
 use Rattle.history.specs.Opening.{openingQuestions, opening, fresh, blank, Begun}
 use Rattle.history.specs.Answers.{openingReply}
 use Rattle.history.specs.Promises.{Room}
-use Rattle.history.specs.Steps.{BeginsWhere, Fits, paddedTo, moved, pastWith}
+use Rattle.history.specs.Steps.{BeginsWhere, Fits, paddedTo, moved, viewWith}
 
 -- ---- the largest figure
 abbrev pub most : List ℕ → ℕ
@@ -81,14 +81,14 @@ entries-take n xs h =
 
 module _ (s : History) where
   -- A view has as many figures and held ticks as the two fields say.
-  horizon-seen : horizon (pastOf s .pair) ≡ s .horizon
+  horizon-seen : horizon (viewOf s .pair) ≡ s .horizon
   horizon-seen = length-table (figure 0 (s .upper)) (s .horizon)
 
-  held-seen : length (pastOf s .held) ≡ s .held
+  held-seen : length (viewOf s .held) ≡ s .held
   held-seen = length-table (figure 0 (s .ticks)) (s .held)
 
   -- What question 12 says of the sizes.
-  pub legal-sizes : Legal (pastOf s) → (1 ≤ s .horizon) × (s .horizon ≤ maxHorizon) × (s .held < s .horizon)
+  pub legal-sizes : Legal (viewOf s) → (1 ≤ s .horizon) × (s .horizon ≤ maxHorizon) × (s .held < s .horizon)
   legal-sizes l = (
     omega (arith, horizon-seen, l .lengths .0),
     omega (arith, horizon-seen, l .lengths .1),
@@ -106,15 +106,15 @@ module _ (s : History) where
     alike : length lowers ≡ length uppers
     alike = length-take-le (s .horizon) (s .lower) v ∙ sym (length-take-le (s .horizon) (s .upper) u)
 
-    pair-seen : pastOf s .pair ≡ pairOf uppers lowers
+    pair-seen : viewOf s .pair ≡ pairOf uppers lowers
     pair-seen = λ i. pairOf (entries-take (s .horizon) (s .upper) u i) (entries-take (s .horizon) (s .lower) v i)
 
-    pub legal-most : Legal (pastOf s) → (most uppers ≤ figureLimit) × (most lowers ≤ figureLimit)
+    pub legal-most : Legal (viewOf s) → (most uppers ≤ figureLimit) × (most lowers ≤ figureLimit)
     legal-most l = within-most uppers lowers alike (subst (λ (p : Pair). question4 p .asked) pair-seen (l .figures))
 
     pub most-legal
         : 1 ≤ s .horizon → s .horizon ≤ maxHorizon → s .held < s .horizon → most uppers ≤ figureLimit → most lowers ≤ figureLimit
-        → Legal (pastOf s)
+        → Legal (viewOf s)
     most-legal p q r a b =
         record {
           lengths = (omega (arith, horizon-seen), omega (arith, horizon-seen));
@@ -157,27 +157,27 @@ entries-moved n xs =
 
 module _ (s : History) (x : ℕ) (l : s .held < length (s .ticks)) where
   abbrev longer : List ℕ
-  longer = then (pastOf s .held) x
+  longer = then (viewOf s .held) x
 
   -- How many of the ticks make way.
-  less : length longer - (horizon (pastOf s .pair) - 1) ≡ s .held + 1 - (s .horizon - 1)
-  less = omega (arith, length-then (pastOf s .held) x, horizon-seen s, held-seen s)
+  less : length longer - (horizon (viewOf s .pair) - 1) ≡ s .held + 1 - (s .horizon - 1)
+  less = omega (arith, length-then (viewOf s .held) x, horizon-seen s, held-seen s)
 
-  abbrev holding : List ℕ → Past
-  holding xs = record { pair = pastOf s .pair; held = xs }
+  abbrev holding : List ℕ → View
+  holding xs = record { pair = viewOf s .pair; held = xs }
 
   -- There is room for it.
-  pub added-last : s .held + 1 < s .horizon → holding (entries (s .held + 1) (set (s .ticks) (s .held) x)) ≡ added (pastOf s) x
+  pub added-last : s .held + 1 < s .horizon → holding (entries (s .held + 1) (set (s .ticks) (s .held) x)) ≡ added (viewOf s) x
   added-last h =
-      let none : length longer - (horizon (pastOf s .pair) - 1) ≡ 0 = omega (arith, less) in
+      let none : length longer - (horizon (viewOf s .pair) - 1) ≡ 0 = omega (arith, less) in
       ap holding (entries-then (s .held) x (s .ticks) l ∙ ap (λ k. drop k longer) (sym none))
 
   -- The oldest makes way.
   pub added-full
       : (later : List ℕ) → later ≡ moved (set (s .ticks) (s .held) x) (s .held) → s .held < s .horizon → s .horizon ≤ s .held + 1
-      → holding (entries (s .held) later) ≡ added (pastOf s) x
+      → holding (entries (s .held) later) ≡ added (viewOf s) x
   added-full later e f h =
-      let one : length longer - (horizon (pastOf s .pair) - 1) ≡ 1 = omega (arith, less) in
+      let one : length longer - (horizon (viewOf s .pair) - 1) ≡ 1 = omega (arith, less) in
       ap holding
       (ap (entries (s .held)) e
       ∙ entries-moved (s .held) (set (s .ticks) (s .held) x)
@@ -248,10 +248,10 @@ module _ (p : Pair) where
 -- It is not refused: the figures are held, and no tick.
 pub unbegun-is
     : (us ls upper lower ticks : List ℕ) → upper ≡ paddedTo us → lower ≡ paddedTo ls → length ls ≡ length us
-    → pastOf (freshHistory (length us) upper lower ticks) ≡ fresh (pairOf us ls)
+    → viewOf (freshHistory (length us) upper lower ticks) ≡ fresh (pairOf us ls)
 unfolding table
 unbegun-is us ls upper lower ticks u l e =
-    λ i. pastWith
+    λ i. viewWith
     ((ap (entries (length us)) u ∙ entries-padded us _ (length us) refl) i)
     ((ap (entries (length us)) l ∙ entries-padded ls _ (length us) e) i)
     []

@@ -11,13 +11,13 @@ use Rattle.curves.specs.Ticks.{then, Judged}
 use Rattle.curves.proofs.NextTick.{length-then}
 use Rattle.closure.specs.Closing.{maxHorizon}
 use Rattle.history.specs.declared.History.{History}
-use Rattle.history.specs.States.{Past, pastOf, Legal}
+use Rattle.history.specs.States.{View, viewOf, Legal}
 use Rattle.history.specs.Promises.{Room}
-use Rattle.history.specs.Steps.{Slices, pastWith}
+use Rattle.history.specs.Steps.{Slices, viewWith}
 use Rattle.history.proofs.Histories.{entries-take, legal-sizes}
 
 -- A legal history has room for a tick.
-pub legal-room : (h : History) → Legal (pastOf h) → Room h
+pub legal-room : (h : History) → Legal (viewOf h) → Room h
 legal-room h L = record { within = legal-sizes h L .1; fewer = legal-sizes h L .2 }
 
 -- How long the arrays are.
@@ -26,7 +26,7 @@ pub record Arrays (h : History) : Type 0 where
   pub lowers : length (h .lower) ≡ maxHorizon
   pub held : length (h .ticks) ≡ maxHorizon
 
-module _ (h : History) (A : Arrays h) (L : Legal (pastOf h)) where
+module _ (h : History) (A : Arrays h) (L : Legal (viewOf h)) where
   -- The arrays have as many entries as are sliced off.
   pub upper-room : h .horizon ≤ length (h .upper)
   upper-room = omega (arith, A .uppers, legal-sizes h L .1)
@@ -56,11 +56,11 @@ module _ (h : History) (A : Arrays h) (L : Legal (pastOf h)) where
       }
 
   -- Together they are the view.
-  abbrev sliced : Past
-  sliced = pastWith (take (h .horizon) (h .upper)) (take (h .horizon) (h .lower)) (take (h .held) (h .ticks))
+  abbrev sliced : View
+  sliced = viewWith (take (h .horizon) (h .upper)) (take (h .horizon) (h .lower)) (take (h .held) (h .ticks))
 
-  pub past-sliced : pastOf h ≡ sliced
-  past-sliced = λ i. pastWith
+  pub view-sliced : viewOf h ≡ sliced
+  view-sliced = λ i. viewWith
       (entries-take (h .horizon) (h .upper) upper-room i)
       (entries-take (h .horizon) (h .lower) lower-room i)
       (entries-take (h .held) (h .ticks) ticks-room i)

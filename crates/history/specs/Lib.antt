@@ -1,4 +1,4 @@
--- Histories: what counts of one, opening, and what the private functions promise each other.
+-- Histories: the view of one, opening, and what the private functions promise each other.
 pub mod States
 pub mod Opening
 pub mod Answers

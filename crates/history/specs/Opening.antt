@@ -6,7 +6,7 @@ use Rattle.curves.specs.Pairs.{Pair}
 use Rattle.curves.specs.Questions.{Question, Reply, result, refusal, replyTo}
 use Rattle.closure.specs.Closing.{maxHorizon, question1, question2, question4}
 use Rattle.history.specs.declared.History.{History}
-use Rattle.history.specs.States.{Past, pastOf}
+use Rattle.history.specs.States.{View, viewOf}
 
 abbrev pub openingQuestions : Pair → List Question
 openingQuestions p = question1 p ∷ question2 p ∷ question4 p ∷ []
@@ -15,7 +15,7 @@ unfoldable pub opening : Pair → Reply (Unit {0})
 opening p = replyTo (openingQuestions p) (λ yeses. tt)
 
 -- No tick is held yet.
-abbrev pub fresh : Pair → Past
+abbrev pub fresh : Pair → View
 fresh p = record { pair = p; held = [] }
 
 -- Every field and every entry is 0.
@@ -31,5 +31,5 @@ blank =
 
 -- The history that an opening hands out. Where it is not refused, what lies past the horizon and past the held ticks is free.
 abbrev pub Begun : Reply (Unit {0}) → Pair → History → Type 0
-Begun (result _) p h = pastOf h ≡ fresh p
+Begun (result _) p h = viewOf h ≡ fresh p
 Begun (refusal n) p h = h ≡ blank

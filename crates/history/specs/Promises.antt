@@ -5,7 +5,7 @@ use Rattle.curves.specs.Pairs.{Pair}
 use Rattle.closure.specs.Closing.{maxHorizon}
 use Rattle.history.specs.declared.History.{History}
 use Rattle.history.specs.declared.Start.{Start}
-use Rattle.history.specs.States.{pastOf, added}
+use Rattle.history.specs.States.{viewOf, added}
 use Rattle.history.specs.Opening.{opening, Begun}
 use Rattle.history.specs.Answers.{openingReply}
 
@@ -20,5 +20,5 @@ pub record Room (h : History) : Type 0 where
 
 -- The tick is added, and what lies outside the view is free; without room every field and entry stays.
 pub record Pushed (h : History) (x : ℕ) (r : History) : Type 0 where
-  pub tick : Room h → pastOf r ≡ added (pastOf h) x
+  pub tick : Room h → viewOf r ≡ added (viewOf h) x
   pub stays : ¬ Room h → r ≡ h

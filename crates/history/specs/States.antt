@@ -11,8 +11,8 @@ use Rattle.curves.specs.Questions.{Question}
 use Rattle.closure.specs.Closing.{question1, question4}
 use Rattle.history.specs.declared.History.{History}
 
--- What counts of a history, which is all that a generator's state has: the pair, and the held ticks in stream order.
-pub record Past : Type 0 where
+-- The view of a history, and of a generator's state: the pair, and the held ticks in stream order.
+pub record View : Type 0 where
   pub pair : Pair
   pub held : List ℕ
 
@@ -20,24 +20,24 @@ pub record Past : Type 0 where
 abbrev pub entries : ℕ → List ℕ → List ℕ
 entries n xs = table (figure 0 xs) n
 
-abbrev pub pastOf : History → Past
-pastOf h =
+abbrev pub viewOf : History → View
+viewOf h =
     record {
       pair = pairOf (entries (h .horizon) (h .upper)) (entries (h .horizon) (h .lower));
       held = entries (h .held) (h .ticks);
     }
 
 -- A tick with the count x is added: the last H − 1 ticks are held.
-abbrev pub added : Past → ℕ → Past
+abbrev pub added : View → ℕ → View
 added v x = record { pair = v .pair; held = newest (horizon (v .pair) - 1) (then (v .held) x) }
 
 -- 12. The state has a horizon of 1 to 256, no figure above the limit, and fewer held ticks than its horizon.
-pub record Legal (v : Past) : Type 0 where
+pub record Legal (v : View) : Type 0 where
   pub lengths : question1 (v .pair) .asked
   pub figures : question4 (v .pair) .asked
   pub fewer : length (v .held) < horizon (v .pair)
 
-unfoldable pub legal? : (v : Past) → Dec (Legal v)
+unfoldable pub legal? : (v : View) → Dec (Legal v)
 legal? v =
     elim (Dec·and (question1 (v .pair) .answered)
     (Dec·and (question4 (v .pair) .answered) (decLt (length (v .held)) (horizon (v .pair))))) [
@@ -45,5 +45,5 @@ legal? v =
       | no h ↦ no (λ l. h (l .lengths, (l .figures, l .fewer)))
     ]
 
-abbrev pub question12 : Past → Question
+abbrev pub question12 : View → Question
 question12 v = record { number = 12; asked = Legal v; answered = legal? v }

@@ -8,7 +8,7 @@ use Rattle.curves.specs.Pairs.{Pair, pairOf, horizon}
 use Rattle.closure.specs.Closing.{maxHorizon}
 use Rattle.history.specs.declared.Opening.{Opening}
 use Rattle.history.specs.declared.Opening.the-variants as opening
-use Rattle.history.specs.States.{Past}
+use Rattle.history.specs.States.{View}
 
 -- Lists of one length that an array has room for.
 pub record Fits (p : Pair) : Type 0 where
@@ -36,5 +36,5 @@ pub record Slices (us ls xs : List ℕ) : Type 0 where
   pub within : length us ≤ maxHorizon
   pub fewer : length xs < length us
 
-abbrev pub pastWith : List ℕ → List ℕ → List ℕ → Past
-pastWith us ls xs = record { pair = pairOf us ls; held = xs }
+abbrev pub viewWith : List ℕ → List ℕ → List ℕ → View
+viewWith us ls xs = record { pair = pairOf us ls; held = xs }

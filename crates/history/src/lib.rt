@@ -7,7 +7,7 @@ ghost use Rattle.laws.specs.Ranges.{fold};
 ghost use Rattle.laws.specs.Tests.{Tells};
 ghost use Rattle.curves.specs.Pairs.{pairOf, figure};
 ghost use Rattle.closure.specs.Closing.{maxHorizon};
-ghost use Rattle.history.specs.States.{pastOf, added, Legal};
+ghost use Rattle.history.specs.States.{viewOf, added, Legal};
 ghost use Rattle.history.specs.Opening.{opening, fresh, blank, Begun};
 ghost use Rattle.history.specs.Answers.{openingReply};
 ghost use Rattle.history.specs.Promises.{Started, Room, Pushed};
@@ -59,7 +59,7 @@ impl History {
 
     // Question 12.
     pub fn is_legal(self) -> bool
-        ensures { λ r. ⌜ Tells r (Legal (pastOf self)) ⌝ }
+        ensures { λ r. ⌜ Tells r (Legal (viewOf self)) ⌝ }
     {
         let horizon = self.horizon;
         if horizon < 1 {
@@ -135,7 +135,7 @@ fn begin(opening: Opening, ceilings: &[u32], leasts: &[u32]) -> History
 // That of a stream that has not begun.
 fn unbegun(ceilings: &[u32], leasts: &[u32]) -> History
     requires { ⌜ Fits (pairOf (now ceilings) (now leasts)) ⌝ }
-    ensures { λ r. ⌜ pastOf r ≡ fresh (pairOf (now (ceilings .entry)) (now (leasts .entry))) ⌝ }
+    ensures { λ r. ⌜ viewOf r ≡ fresh (pairOf (now (ceilings .entry)) (now (leasts .entry))) ⌝ }
 {
     let horizon = ceilings.len();
     let upper = padded(ceilings);
@@ -209,7 +209,7 @@ fn largest(figures: &[u32]) -> u32
 // The tick is put behind the held ones. Where these are then too many, the oldest goes.
 fn add(history: History, count: u32) -> History
     requires { ⌜ Room history ⌝ }
-    ensures { λ r. ⌜ pastOf r ≡ added (pastOf history) count ⌝ }
+    ensures { λ r. ⌜ viewOf r ≡ added (viewOf history) count ⌝ }
 {
     let horizon = history.horizon;
     let held = history.held;

@@ -10,29 +10,29 @@ use Rattle.curves.specs.Pairs.{Pair, pairOf, figure}
 use Rattle.curves.specs.Ticks.{passed, tooMany}
 use Rattle.curves.specs.Questions.{ask, result, refusal}
 use Rattle.curves.proofs.Verdicts.{inside?, judged?, find, turned-down, verdict?}
-use Rattle.history.specs.States.{Past, legal?}
-use Rattle.monitor.specs.Monitoring.{watch, judging, judged, alreadyFailed}
+use Rattle.history.specs.States.{View, legal?}
+use Rattle.monitor.specs.Monitoring.{monitorView, judging, judged, alreadyFailed}
 use Rattle.monitor.specs.Runs.{rulings}
 
 abbrev pair : Pair
 pair = pairOf (2 ∷ 3 ∷ 5 ∷ 5 ∷ []) (0 ∷ 0 ∷ 1 ∷ 3 ∷ [])
 
 -- Held: 2, 1.
-abbrev some : Past
+abbrev some : View
 some = record { pair = pair; held = 2 ∷ 1 ∷ [] }
 
 -- As many ticks as the horizon.
-abbrev overfull : Past
+abbrev overfull : View
 overfull = record { pair = pair; held = 2 ∷ 1 ∷ 0 ∷ 2 ∷ [] }
 
 -- A tick turned down is not added, and nothing passes after it.
 fails-for-good
-    : rulings (watch some false) (2 ∷ 3 ∷ 0 ∷ [])
+    : rulings (monitorView some false) (2 ∷ 3 ∷ 0 ∷ [])
     ≡ result (judged passed) ∷ result (judged (tooMany 1)) ∷ result alreadyFailed ∷ []
 unfolding rulings judging ask legal? ⊎-map every every? Dec·and decLe decLt figure verdict? find turned-down inside? judged? sum
 fails-for-good = refl
 
 -- 12 comes before 'already failed'.
-overfull-first : judging (watch overfull true) 0 ≡ refusal 12
+overfull-first : judging (monitorView overfull true) 0 ≡ refusal 12
 unfolding judging ask legal? ⊎-map every every? Dec·and decLe decLt figure
 overfull-first = refl

@@ -14,10 +14,10 @@ use Rattle.curves.proofs.Asked.{result-from}
 use Rattle.curves.proofs.NextTick.{last-none, last-more, length-then, last-next}
 use Rattle.curves.proofs.Verdicts.{KeptTo, kept-none, kept-more, shortest, verdict-is}
 use Rattle.history.proofs.Slicing.{judged-next}
-use Rattle.history.specs.Steps.{Slices, pastWith}
+use Rattle.history.specs.Steps.{Slices, viewWith}
 use Rattle.monitor.specs.declared.Verdict as verdict
 use Rattle.monitor.specs.declared.Verdict.the-variants as variant
-use Rattle.monitor.specs.Monitoring.{Watch, judged, verdictOn, judging}
+use Rattle.monitor.specs.Monitoring.{MonitorView, judged, verdictOn, judging}
 use Rattle.monitor.specs.Answers.{verdictReply}
 use Rattle.monitor.specs.Steps.{AddsWhere}
 
@@ -40,7 +40,7 @@ module _ (us ls xs : List ℕ) (count : ℕ) where
 
   -- The verdict is the one that is answered; and the right one is.
   abbrev pub Found : Verdict → Type 0
-  Found v = result (judged v) ≡ result (judged (verdictOn (pastWith us ls xs) count))
+  Found v = result (judged v) ≡ result (judged (verdictOn (viewWith us ls xs) count))
 
   right-found : (v : Verdict) → Right p ys v → Found v
   right-found v r = ap (λ v. result (judged v)) (sym (verdict-is p ys v r))
@@ -98,7 +98,7 @@ module _ (us ls xs : List ℕ) (count : ℕ) where
         (λ e j. one-more m f e (let b : e ≤ length ys = j .begun in omega (arith, length-then xs count)) j)
 
 -- ---- a tick passes only where the state has its form
-pub adds-where : (w : Watch) (x : ℕ) (v : verdict.Verdict) → verdictReply v ≡ judging w x → AddsWhere v (w .past)
+pub adds-where : (w : MonitorView) (x : ℕ) (v : verdict.Verdict) → verdictReply v ≡ judging w x → AddsWhere v (w .view)
 unfolding judging
 adds-where w x variant.Passed e = result-from _ _ _ (sym e) .0 .0
 adds-where w x (variant.TooMany d) e = tt

@@ -6,22 +6,22 @@ use mathlib.Core.List.{[], _∷_}
 use Rattle.curves.specs.Ticks.{then, Verdict, passed, tooMany, tooFew}
 use Rattle.curves.specs.Questions.{Reply, result, refusal, replyTo}
 use Rattle.curves.proofs.Verdicts.{verdict?}
-use Rattle.history.specs.States.{Past, pastOf, added, question12}
+use Rattle.history.specs.States.{View, viewOf, added, question12}
 use Rattle.monitor.specs.declared.Monitor.{Monitor}
 
--- What counts of a monitor's state: what counts of its history, and whether it has failed.
-pub record Watch : Type 0 where
-  pub past : Past
+-- The view of a monitor's state: that of its history, and whether it has failed.
+pub record MonitorView : Type 0 where
+  pub view : View
   pub failed : Bool
 
-abbrev pub watch : Past → Bool → Watch
-watch v b = record { past = v; failed = b }
+abbrev pub monitorView : View → Bool → MonitorView
+monitorView v b = record { view = v; failed = b }
 
-abbrev pub watchOf : Monitor → Watch
-watchOf m = watch (pastOf (m .history)) (m .failed)
+abbrev pub monitorViewOf : Monitor → MonitorView
+monitorViewOf m = monitorView (viewOf (m .history)) (m .failed)
 
 -- The verdict on a tick with the count x: the one that is `Right`.
-abbrev pub verdictOn : Past → ℕ → Verdict
+abbrev pub verdictOn : View → ℕ → Verdict
 verdictOn v x = verdict? (v .pair) (then (v .held) x) .0
 
 -- What a tick is answered: its verdict, or that the monitor has failed before.
@@ -29,8 +29,8 @@ pub data Ruling : Type 0 where
   judged : Verdict → Ruling
   alreadyFailed : Ruling
 
-unfoldable pub judging : Watch → ℕ → Reply Ruling
-judging w x = replyTo (question12 (w .past) ∷ []) (λ yeses. cond (w .failed) alreadyFailed (judged (verdictOn (w .past) x)))
+unfoldable pub judging : MonitorView → ℕ → Reply Ruling
+judging w x = replyTo (question12 (w .view) ∷ []) (λ yeses. cond (w .failed) alreadyFailed (judged (verdictOn (w .view) x)))
 
 -- The same state with its failed mark set.
 abbrev pub marked : Monitor → Monitor
@@ -38,7 +38,7 @@ marked m = record { history = m .history; failed = true }
 
 -- The next state. A passed tick is added, and what lies outside the next state's view is free; else every field and entry is settled.
 abbrev pub MonitorNext : Reply Ruling → Monitor → ℕ → Monitor → Type 0
-MonitorNext (result (judged passed)) m x next = watchOf next ≡ watch (added (pastOf (m .history)) x) false
+MonitorNext (result (judged passed)) m x next = monitorViewOf next ≡ monitorView (added (viewOf (m .history)) x) false
 MonitorNext (result (judged (tooMany d))) m x next = next ≡ marked m
 MonitorNext (result (judged (tooFew d))) m x next = next ≡ marked m
 MonitorNext (result alreadyFailed) m x next = next ≡ m

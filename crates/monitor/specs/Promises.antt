@@ -8,7 +8,7 @@ use Rattle.history.specs.Answers.{openingReply}
 use Rattle.monitor.specs.declared.Monitor.{Monitor}
 use Rattle.monitor.specs.declared.Opened.{Opened}
 use Rattle.monitor.specs.declared.Judgement.{Judgement}
-use Rattle.monitor.specs.Monitoring.{watchOf, judging, MonitorNext}
+use Rattle.monitor.specs.Monitoring.{monitorViewOf, judging, MonitorNext}
 use Rattle.monitor.specs.Answers.{verdictReply}
 
 pub record MonitorOpened (p : Pair) (r : Opened) : Type 0 where
@@ -17,5 +17,5 @@ pub record MonitorOpened (p : Pair) (r : Opened) : Type 0 where
   pub unfailed : r .state .failed ≡ false
 
 pub record MonitorTicked (m : Monitor) (x : ℕ) (r : Judgement) : Type 0 where
-  pub answer : verdictReply (r .verdict) ≡ judging (watchOf m) x
-  pub next : MonitorNext (judging (watchOf m) x) m x (r .next)
+  pub answer : verdictReply (r .verdict) ≡ judging (monitorViewOf m) x
+  pub next : MonitorNext (judging (monitorViewOf m) x) m x (r .next)

@@ -7,29 +7,29 @@ use Rattle.curves.specs.Questions.{Reply, result, refusal}
 use Rattle.history.specs.States.{added}
 use Rattle.monitor.specs.declared.Monitor.{Monitor}
 use Rattle.monitor.specs.declared.Judgement.{Judgement}
-use Rattle.monitor.specs.Monitoring.{Watch, watch, Ruling, judged, alreadyFailed, judging}
+use Rattle.monitor.specs.Monitoring.{MonitorView, monitorView, Ruling, judged, alreadyFailed, judging}
 use Rattle.monitor.specs.Promises.{MonitorTicked}
 
--- ---- by what counts of a state
-abbrev pub watchAfter : Reply Ruling → Watch → ℕ → Watch
-watchAfter (result (judged passed)) w x = watch (added (w .past) x) false
-watchAfter (result (judged (tooMany d))) w x = watch (w .past) true
-watchAfter (result (judged (tooFew d))) w x = watch (w .past) true
-watchAfter (result alreadyFailed) w x = w
-watchAfter (refusal n) w x = w
+-- ---- by the view of a state
+abbrev pub monitorAfter : Reply Ruling → MonitorView → ℕ → MonitorView
+monitorAfter (result (judged passed)) w x = monitorView (added (w .view) x) false
+monitorAfter (result (judged (tooMany d))) w x = monitorView (w .view) true
+monitorAfter (result (judged (tooFew d))) w x = monitorView (w .view) true
+monitorAfter (result alreadyFailed) w x = w
+monitorAfter (refusal n) w x = w
 
 -- After one tick, and after a list of them.
-abbrev pub watched : Watch → ℕ → Watch
-watched w x = watchAfter (judging w x) w x
+abbrev pub afterTick : MonitorView → ℕ → MonitorView
+afterTick w x = monitorAfter (judging w x) w x
 
-unfoldable pub watchedAll : Watch → List ℕ → Watch
-watchedAll w [] = w
-watchedAll w (x ∷ xs) = watchedAll (watched w x) xs
+unfoldable pub afterTicks : MonitorView → List ℕ → MonitorView
+afterTicks w [] = w
+afterTicks w (x ∷ xs) = afterTicks (afterTick w x) xs
 
 -- What the ticks of a list are answered.
-unfoldable pub rulings : Watch → List ℕ → List (Reply Ruling)
+unfoldable pub rulings : MonitorView → List ℕ → List (Reply Ruling)
 rulings w [] = []
-rulings w (x ∷ xs) = judging w x ∷ rulings (watched w x) xs
+rulings w (x ∷ xs) = judging w x ∷ rulings (afterTick w x) xs
 
 -- ---- any results that the promises allow
 -- A tick: its count, and what came back.

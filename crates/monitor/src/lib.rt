@@ -6,9 +6,9 @@ ghost use mathlib.Core.Path.{_≡_};
 ghost use mathlib.Core.Bool.{false};
 ghost use Rattle.curves.specs.Pairs.{pairOf};
 ghost use Rattle.curves.specs.Questions.{result};
-ghost use Rattle.history.specs.States.{pastOf, added, Legal};
-ghost use Rattle.history.specs.Steps.{Slices, pastWith};
-ghost use Rattle.monitor.specs.Monitoring.{watch, judged, verdictOn, judging, marked, MonitorNext};
+ghost use Rattle.history.specs.States.{viewOf, added, Legal};
+ghost use Rattle.history.specs.Steps.{Slices, viewWith};
+ghost use Rattle.monitor.specs.Monitoring.{monitorView, judged, verdictOn, judging, marked, MonitorNext};
 ghost use Rattle.monitor.specs.Answers.{verdictReply};
 ghost use Rattle.monitor.specs.Promises.{MonitorOpened, MonitorTicked};
 ghost use Rattle.monitor.specs.Steps.{AddsWhere};
@@ -69,7 +69,7 @@ impl Monitor {
 
 // The verdict on the next tick. Question 12 comes before the failed mark.
 fn find_verdict(history: History, failed: bool, count: u32) -> Verdict
-    ensures { λ r. ⌜ verdictReply r ≡ judging (watch (pastOf history) failed) count ⌝ }
+    ensures { λ r. ⌜ verdictReply r ≡ judging (monitorView (viewOf history) failed) count ⌝ }
 {
     if !history.is_legal() {
         return Verdict::BadState;
@@ -80,10 +80,10 @@ fn find_verdict(history: History, failed: bool, count: u32) -> Verdict
     judge_history(history, count)
 }
 
-// Judges by what counts of the history: its figures up to the horizon, and its held ticks.
+// Judges by the view of the history: its figures up to the horizon, and its held ticks.
 fn judge_history(history: History, count: u32) -> Verdict
-    requires { ⌜ Legal (pastOf history) ⌝ }
-    ensures { λ r. ⌜ verdictReply r ≡ result (judged (verdictOn (pastOf history) count)) ⌝ }
+    requires { ⌜ Legal (viewOf history) ⌝ }
+    ensures { λ r. ⌜ verdictReply r ≡ result (judged (verdictOn (viewOf history) count)) ⌝ }
 {
     let horizon = history.horizon;
     let held = history.held;
@@ -97,7 +97,7 @@ fn judge_history(history: History, count: u32) -> Verdict
 fn judge(upper: &[u32], lower: &[u32], ticks: &[u32], count: u32) -> Verdict
     requires { ⌜ Slices (now upper) (now lower) (now ticks) ⌝ }
     ensures { λ r. ⌜ verdictReply r
-        ≡ result (judged (verdictOn (pastWith (now (upper .entry)) (now (lower .entry)) (now (ticks .entry))) count)) ⌝ }
+        ≡ result (judged (verdictOn (viewWith (now (upper .entry)) (now (lower .entry)) (now (ticks .entry))) count)) ⌝ }
 {
     let held = ticks.len();
     let mut sum = count as u64;
@@ -120,7 +120,7 @@ fn judge(upper: &[u32], lower: &[u32], ticks: &[u32], count: u32) -> Verdict
 
 // The next state.
 fn advance(monitor: Monitor, verdict: Verdict, count: u32) -> Monitor
-    requires { ⌜ AddsWhere verdict (pastOf (monitor .history)) ⌝ }
+    requires { ⌜ AddsWhere verdict (viewOf (monitor .history)) ⌝ }
     ensures { λ r. ⌜ MonitorNext (verdictReply verdict) monitor count r ⌝ }
 {
     match verdict {
@@ -134,8 +134,8 @@ fn advance(monitor: Monitor, verdict: Verdict, count: u32) -> Monitor
 
 // The state after a tick that passed.
 fn add(monitor: Monitor, count: u32) -> Monitor
-    requires { ⌜ Legal (pastOf (monitor .history)) ⌝ }
-    ensures { λ r. ⌜ (pastOf (r .history) ≡ added (pastOf (monitor .history)) count) × (r .failed ≡ false) ⌝ }
+    requires { ⌜ Legal (viewOf (monitor .history)) ⌝ }
+    ensures { λ r. ⌜ (viewOf (r .history) ≡ added (viewOf (monitor .history)) count) × (r .failed ≡ false) ⌝ }
 {
     let history = monitor.history.push(count);
     Monitor {

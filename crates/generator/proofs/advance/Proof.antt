@@ -2,7 +2,7 @@
 -- Assumes nothing.
 use mathlib.Core.Path.{refl, subst, subst⁻¹}
 use borrow.Author.Needs.{needs}
-use Rattle.history.specs.States.{pastOf, Legal}
+use Rattle.history.specs.States.{viewOf, Legal}
 use Rattle.history.proofs.Slicing.{legal-room}
 use Rattle.generator.specs.declared.Generator.{Generator}
 use Rattle.generator.specs.declared.Sending.{Sending}
@@ -13,10 +13,10 @@ use Rattle.generator.proofs.advance.Statement.{statement}
 use Rattle.generator.proofs.advance.Tie as tie
 
 -- Where a count is sent, the state has its form.
-legal : (c : tie.After-push) → Legal (pastOf (c .before .before .before .before .args .generator .history))
+legal : (c : tie.After-push) → Legal (viewOf (c .before .before .before .before .args .generator .history))
 legal c =
     let start = c .before .before .before .before in
-    subst (λ s. AddsSent s (pastOf (start .args .generator .history))) (c .before .before .sending .given .1) (start .pre)
+    subst (λ s. AddsSent s (viewOf (start .args .generator .history))) (c .before .before .sending .given .1) (start .pre)
 
 -- What is promised, for what is sent.
 abbrev For : Generator → Generator → Sending → Type 0

@@ -2,9 +2,9 @@
 -- Assumes nothing.
 use mathlib.Core.Path.{subst⁻¹}
 use borrow.Author.Needs.{needs}
-use Rattle.history.specs.States.{Past}
+use Rattle.history.specs.States.{View}
 use Rattle.history.proofs.Slicing.{Arrays, upper-room, lower-room, ticks-room, upper-length, lower-length, ticks-length}
-use Rattle.history.proofs.Slicing.{slices, past-sliced}
+use Rattle.history.proofs.Slicing.{slices, view-sliced}
 use Rattle.generator.specs.Steps.{Limited}
 use Rattle.generator.proofs.find_limits.Statement.{statement}
 use Rattle.generator.proofs.find_limits.Tie as tie
@@ -37,7 +37,7 @@ limit-requires c κs = let s = c .before .before .before .before .before .before
 returns : tie.Need-returns
 returns c =
     let s = c .before .before .before .before .before .before .before in
-    subst⁻¹ (λ (v : Past). Limited v (c .limit .result)) (past-sliced _ (arrays s) (s .pre)) (c .limit .ensures)
+    subst⁻¹ (λ (v : View). Limited v (c .limit .result)) (view-sliced _ (arrays s) (s .pre)) (c .limit .ensures)
 
 pub find-limits-spec : {M : Type 1} → statement M
 find-limits-spec =

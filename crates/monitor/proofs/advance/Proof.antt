@@ -2,7 +2,7 @@
 -- Assumes nothing.
 use mathlib.Core.Path.{refl, subst, subst⁻¹}
 use borrow.Author.Needs.{needs}
-use Rattle.history.specs.States.{pastOf}
+use Rattle.history.specs.States.{viewOf}
 use Rattle.monitor.specs.declared.Monitor.{Monitor}
 use Rattle.monitor.specs.declared.Verdict.{Verdict}
 use Rattle.monitor.specs.Monitoring.{MonitorNext}
@@ -14,7 +14,7 @@ use Rattle.monitor.proofs.advance.Tie as tie
 add-requires : tie.Need-add-requires
 add-requires c κs =
     let s = c .before .before in
-    subst (λ v. AddsWhere v (pastOf (s .args .monitor .history))) (c .enum-told .given .1) (s .pre)
+    subst (λ v. AddsWhere v (viewOf (s .args .monitor .history))) (c .enum-told .given .1) (s .pre)
 
 -- What is asked of the next state, for a verdict.
 abbrev For : tie.Start → Monitor → Verdict → Type 0
@@ -24,7 +24,7 @@ returns : tie.Need-returns
 returns c =
     let told = c .before in
     let promised = c .add .ensures in
-    subst⁻¹ (For (told .before .before) _) (told .enum-told .given .1) (λ i. record { past = promised .0 i; failed = promised .1 i })
+    subst⁻¹ (For (told .before .before) _) (told .enum-told .given .1) (λ i. record { view = promised .0 i; failed = promised .1 i })
 
 returns-2 : tie.Need-returns-2
 returns-2 c = subst⁻¹ (For (c .before .before .before) _) (c .before .enum-told2 .given .1) (c .fail .ensures)

@@ -4,8 +4,8 @@ use mathlib.Core.Path.{sym, _∙_}
 use borrow.Author.Needs.{needs}
 use borrow.Author.Tests.{not-true, not-false}
 use Rattle.laws.proofs.Tests.{either-true, either-false}
-use Rattle.history.specs.States.{pastOf, Legal}
-use Rattle.monitor.specs.Monitoring.{watch}
+use Rattle.history.specs.States.{viewOf, Legal}
+use Rattle.monitor.specs.Monitoring.{monitorView}
 use Rattle.monitor.proofs.Said.{judging-bad, judging-failed, judging-unfailed}
 use Rattle.monitor.proofs.find_verdict.Statement.{statement}
 use Rattle.monitor.proofs.find_verdict.Tie as tie
@@ -16,7 +16,7 @@ returns c =
     sym (judging-bad _ _ (either-false _ _ told (not-true told (c .if1 .taken)) (c .before .is-legal .ensures)))
 
 -- Where question 12 is answered yes.
-legal : (e : tie.Else1) → Legal (pastOf (e .before .before .args .history))
+legal : (e : tie.Else1) → Legal (viewOf (e .before .before .args .history))
 legal e = let told = e .before .is-legal .result in either-true _ _ told (not-false told (e .if1 .left)) (e .before .is-legal .ensures)
 
 returns-2 : tie.Need-returns-2
@@ -29,7 +29,7 @@ returns-3 : tie.Need-returns-3
 returns-3 c =
     let e = c .before .before in
     let args = e .before .before .args in
-    let state = watch (pastOf (args .history)) (args .failed) in
+    let state = monitorView (viewOf (args .history)) (args .failed) in
     c .judge-history .ensures ∙ sym (judging-unfailed state (args .count) (legal e) (c .before .if2 .left))
 
 pub find-verdict-spec : {M : Type 1} → statement M

@@ -1,11 +1,11 @@
--- `monitor::judge_history` meets its contract: the slices that are handed on are what counts of the history.
+-- `monitor::judge_history` meets its contract: the slices that are handed on are the view of the history.
 -- Assumes nothing.
 use mathlib.Core.Path.{sym, ap, _∙_}
 use borrow.Author.Needs.{needs}
 use Rattle.curves.specs.Questions.{result}
-use Rattle.history.specs.States.{Past}
+use Rattle.history.specs.States.{View}
 use Rattle.history.proofs.Slicing.{Arrays, upper-room, lower-room, ticks-room, upper-length, lower-length, ticks-length}
-use Rattle.history.proofs.Slicing.{slices, past-sliced}
+use Rattle.history.proofs.Slicing.{slices, view-sliced}
 use Rattle.monitor.specs.Monitoring.{judged, verdictOn}
 use Rattle.monitor.proofs.judge_history.Statement.{statement}
 use Rattle.monitor.proofs.judge_history.Tie as tie
@@ -37,8 +37,8 @@ judge-requires c κs = let s = c .before .before .before .before .before .before
 returns : tie.Need-returns
 returns c =
     let s = c .before .before .before .before .before .before .before in
-    let same = past-sliced (s .args .history) (arrays s) (s .pre) in
-    c .judge .ensures ∙ ap (λ (v : Past). result (judged (verdictOn v (s .args .count)))) (sym same)
+    let same = view-sliced (s .args .history) (arrays s) (s .pre) in
+    c .judge .ensures ∙ ap (λ (v : View). result (judged (verdictOn v (s .args .count)))) (sym same)
 
 pub judge-history-spec : {M : Type 1} → statement M
 judge-history-spec =

@@ -2,7 +2,7 @@
 -- Assumes nothing.
 use mathlib.Core.Path.{_≡_, ap, _∙_, subst}
 use borrow.Author.Needs.{needs}
-use Rattle.history.specs.States.{pastOf}
+use Rattle.history.specs.States.{viewOf}
 use Rattle.generator.specs.Generating.{sentFrom, sending, GeneratorNext}
 use Rattle.generator.specs.Answers.{sendingReply}
 use Rattle.generator.proofs.Ranging.{chooses-where, adds-sent}
@@ -10,17 +10,17 @@ use Rattle.generator.proofs.Generator.tick.Statement.{statement}
 use Rattle.generator.proofs.Generator.tick.Tie as tie
 
 choose-requires : tie.Need-choose-requires
-choose-requires c κs = chooses-where (pastOf (c .before .args .self .history)) (c .range .result) (c .range .ensures)
+choose-requires c κs = chooses-where (viewOf (c .before .args .self .history)) (c .range .result) (c .range .ensures)
 
 -- The count is chosen from what the look shows.
 sent : (a : tie.After-choose)
-    → sendingReply (a .choose .result) ≡ sending (pastOf (a .before .before .args .self .history)) (a .before .before .args .choice)
+    → sendingReply (a .choose .result) ≡ sending (viewOf (a .before .before .args .self .history)) (a .before .before .args .choice)
 sent a = a .choose .ensures ∙ ap (λ b. sentFrom b (a .before .before .args .choice)) (a .before .range .ensures)
 
 advance-requires : tie.Need-advance-requires
 advance-requires c κs =
     let args = c .before .before .args in
-    adds-sent (pastOf (args .self .history)) (args .choice) (c .choose .result) (sent c)
+    adds-sent (viewOf (args .self .history)) (args .choice) (c .choose .result) (sent c)
 
 returns : tie.Need-returns
 returns c =

@@ -2,14 +2,14 @@
 -- Assumes nothing.
 use mathlib.Core.Path.{subst}
 use borrow.Author.Needs.{needs}
-use Rattle.monitor.specs.Monitoring.{watchOf, MonitorNext}
+use Rattle.monitor.specs.Monitoring.{monitorViewOf, MonitorNext}
 use Rattle.monitor.proofs.Judging.{adds-where}
 use Rattle.monitor.proofs.Monitor.tick.Statement.{statement}
 use Rattle.monitor.proofs.Monitor.tick.Tie as tie
 
 advance-requires : tie.Need-advance-requires
 advance-requires c κs =
-    adds-where (watchOf (c .before .args .self)) (c .before .args .count) (c .find-verdict .result) (c .find-verdict .ensures)
+    adds-where (monitorViewOf (c .before .args .self)) (c .before .args .count) (c .find-verdict .result) (c .find-verdict .ensures)
 
 returns : tie.Need-returns
 returns c =
