@@ -1,0 +1,4 @@
+-- What is proved of the functions at the boundary.
+mod Coded
+mod Copied
+mod Scripts

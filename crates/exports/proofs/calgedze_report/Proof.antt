@@ -1,0 +1,31 @@
+-- `exports::calgedze_report` meets its promise: the report's bytes are copied as far as there is room.
+-- Assumes nothing.
+use borrow.Author.Needs.{needs}
+use Rattle.report.proofs.Said.{reported-within, reported-part}
+use Rattle.exports.proofs.Copied.{report-into}
+use Rattle.exports.proofs.calgedze_report.Statement.{statement}
+use Rattle.exports.proofs.calgedze_report.Tie as tie
+
+array-share-prefix-bytes : tie.Need-array-share-prefix-bytes
+array-share-prefix-bytes c = reported-within _ _ (c .before .report .ensures)
+
+slice-aggregate-copy : tie.Need-slice-aggregate-copy
+slice-aggregate-copy c = reported-part _ _ (c .before .before .report .ensures)
+
+returns : tie.Need-returns
+returns c =
+    let copied = c .before .before in
+    let told = copied .before .before .before .before .report in
+    let args = copied .before .before .before .before .before .before .before .args in
+    report-into (args .text .now) (args .output .now) _ (told .result) (told .ensures) (copied .copy .ensures)
+
+pub calgedze-report-spec : {M : Type 1} → statement M
+calgedze-report-spec =
+    tie.close
+    (tie.spec
+    (λ c κs. search needs)
+    array-share-prefix-bytes
+    slice-aggregate-copy
+    (λ c κs. search needs)
+    (λ c. search needs)
+    returns)

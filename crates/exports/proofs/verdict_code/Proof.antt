@@ -1,0 +1,61 @@
+-- `exports::verdict_code` meets its contract: a window that is named leaves room for the kind of verdict beside it.
+-- Assumes nothing.
+use Prim.Native.Nat.{ℕ, _≤_}
+use mathlib.Core.Path.{_≡_, sym, ap, _∙_, subst}
+use native.Mathlib.Omega.{arith}
+use borrow.Author.Needs.{needs}
+use Rattle.closure.specs.Closing.{maxHorizon}
+use Rattle.monitor.specs.declared.Verdict.{Verdict}
+use Rattle.monitor.specs.Answers.{verdictReply}
+use Rattle.exports.specs.Codes.{rulingCode}
+use Rattle.exports.specs.Steps.{NamesWindow}
+use Rattle.exports.proofs.verdict_code.Statement.{statement}
+use Rattle.exports.proofs.verdict_code.Tie as tie
+
+-- The window of each kind of verdict that names one is at most 256.
+many : (k : tie.After-verdict) → k .verdict .given .0 .0 ≤ maxHorizon
+many k = subst NamesWindow (k .verdict .given .1) (k .before .before .pre)
+
+few : (k : tie.After-verdict2) → k .verdict2 .given .0 .0 ≤ maxHorizon
+few k = subst NamesWindow (k .verdict2 .given .1) (k .before .before .pre)
+
+cast-result : tie.Need-cast-result
+cast-result c = omega (arith, many (c .before))
+
+add-result : tie.Need-add-result
+add-result c = omega (arith, many (c .before))
+
+cast-result-2 : tie.Need-cast-result-2
+cast-result-2 c = omega (arith, few (c .before))
+
+add-result-2 : tie.Need-add-result-2
+add-result-2 c = omega (arith, few (c .before))
+
+abbrev code : Verdict → ℕ
+code v = rulingCode (verdictReply v)
+
+returns-2 : tie.Need-returns-2
+returns-2 c = sym (ap code (c .before .verdict .given .1))
+
+returns-3 : tie.Need-returns-3
+returns-3 c = sym (ap code (c .before .verdict2 .given .1))
+
+pub verdict-code-spec : {M : Type 1} → statement M
+verdict-code-spec =
+    tie.close
+    (tie.spec
+    (λ c. search needs)
+    (λ c. search needs)
+    cast-result
+    add-result
+    (λ c. search needs)
+    cast-result-2
+    add-result-2
+    (λ c. search needs)
+    (λ c. search needs)
+    (λ c. search needs)
+    (λ c. search needs)
+    returns-2
+    returns-3
+    (λ c. search needs)
+    (λ c. search needs))

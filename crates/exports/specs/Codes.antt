@@ -1,0 +1,29 @@
+-- Answers as numbers, for callers that have numbers and lists only.
+use Prim.Native.Nat.{ℕ, _+_, _*_}
+use Rattle.curves.specs.Ticks.{passed, tooMany, tooFew}
+use Rattle.curves.specs.Questions.{Reply, result, refusal}
+use Rattle.monitor.specs.Monitoring.{Ruling, judged, alreadyFailed}
+
+-- A refusal's number in the upper 32 bits, a value in the lower. Values are below 4,294,967,296, and 0 on a refusal.
+abbrev pub inOne : ℕ → ℕ → ℕ
+inOne number value = number * 4_294_967_296 + value
+
+-- The number of a refusal; 0 where there is none.
+abbrev pub numberOf : {A : Type 0} → Reply A → ℕ
+numberOf (result a) = 0
+numberOf (refusal n) = n
+
+-- A refusal as an entry of a script.
+abbrev pub refused : ℕ → ℕ
+refused n = 4_000_000_000 + n
+
+abbrev pub rulingCode : Reply Ruling → ℕ
+rulingCode (result (judged passed)) = 0
+rulingCode (result (judged (tooMany d))) = 1_000 + d
+rulingCode (result (judged (tooFew d))) = 2_000 + d
+rulingCode (result alreadyFailed) = 3_000
+rulingCode (refusal n) = refused n
+
+abbrev pub sendingCode : Reply ℕ → ℕ
+sendingCode (result x) = x
+sendingCode (refusal n) = refused n

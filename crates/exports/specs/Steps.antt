@@ -1,0 +1,36 @@
+-- What the private functions of this crate promise each other. No public promise cites anything of it.
+use Prim.Native.Nat.{ℕ, _≤_}
+use Rattle.closure.specs.Closing.{maxHorizon}
+use Rattle.closure.specs.declared.Closing.{Closing}
+use Rattle.closure.specs.declared.Closing.the-variants as closing
+use Rattle.constraints.specs.declared.Reading.{Reading}
+use Rattle.constraints.specs.declared.Reading.the-variants as reading
+use Rattle.monitor.specs.declared.Verdict.{Verdict}
+use Rattle.monitor.specs.declared.Verdict.the-variants.{Passed, TooMany, TooFew, AlreadyFailed, BadState}
+use Rattle.exports.specs.Codes.{inOne}
+
+-- The number that stands for an answer of closing, and of reading.
+abbrev pub closingCode : Closing → ℕ
+closingCode (closing.Closed n) = n
+closingCode closing.UpperLength = inOne 1 0
+closingCode closing.LowerLength = inOne 2 0
+closingCode closing.ResultLength = inOne 3 0
+closingCode closing.FigureLimit = inOne 4 0
+closingCode closing.NoClosure = inOne 5 0
+
+abbrev pub readingCode : Reading → ℕ
+readingCode (reading.Read h) = h
+readingCode reading.HeaderLine = inOne 6 0
+readingCode reading.RecordForm = inOne 7 0
+readingCode reading.FigureRange = inOne 8 0
+readingCode reading.WindowAgain = inOne 9 0
+readingCode reading.NoRecord = inOne 10 0
+readingCode reading.ResultLength = inOne 11 0
+
+-- A window that is named is no longer than the longest horizon.
+abbrev pub NamesWindow : Verdict → Type 0
+NamesWindow Passed = Unit {0}
+NamesWindow (TooMany d) = d ≤ maxHorizon
+NamesWindow (TooFew d) = d ≤ maxHorizon
+NamesWindow AlreadyFailed = Unit {0}
+NamesWindow BadState = Unit {0}
