@@ -1,0 +1,11 @@
+// Tries the operations at and past their limits: lists of 0, 1, 256 and 257 figures, figures of 16,776,960 and 16,776,961, and states
+// that anyone could build but no opening and no tick hands out. Each line is what was tried and what came back; the outside tests
+// compute the same lines.
+mod lists;
+mod numbers;
+mod states;
+
+fn main() {
+    lists::try_all();
+    states::try_all();
+}

@@ -1,0 +1,203 @@
+// States built by hand: any horizon, any number of held ticks, any figures and counts, and rubbish in the entries that have no effect.
+use crate::numbers;
+use generator::Admissible;
+use generator::Generator;
+use generator::Sending;
+use history::History;
+use libc::STDOUT_FILENO;
+use monitor::Monitor;
+use monitor::Verdict;
+ghost use Prim.Native.Nat.{_≤_};
+
+const CASES: u64 = 400;
+
+const MAX_HORIZON: usize = 256;
+
+const FIGURE_LIMIT: u32 = 16_776_960;
+
+const LARGEST: usize = 18_446_744_073_709_551_615;
+
+pub(crate) fn try_all() {
+    let mut case = 1;
+    while case <= CASES {
+        try_state(case);
+        case += 1;
+    }
+}
+
+fn try_state(case: u64) {
+    let history = build(case);
+    let failed = numbers::draw(case, 1, 4) == 0;
+    let count = draw_count(case, 2, 12, 4);
+    io::write_all(STDOUT_FILENO, b"state");
+    numbers::show(case);
+    try_monitor(Monitor { history, failed }, count);
+    try_generator(Generator { history }, count);
+    io::write_all(STDOUT_FILENO, b"\n");
+}
+
+// Every fourth state has figures at the limit and above it among the others, the rest hardly any.
+fn build(case: u64) -> History {
+    let odd = one_in(case);
+    let horizon = draw_size(case, 4, 11);
+    let held = draw_size(case, 6, 1 + numbers::draw(case, 8, 10));
+    let upper = draw_counts(case, 1_024, odd, 1 + numbers::draw(case, 9, 90));
+    let lower = draw_counts(case, 2_048, odd, 1 + numbers::draw(case, 10, 9));
+    let ticks = draw_counts(case, 3_072, 24, 1 + numbers::draw(case, 11, 6));
+    History {
+        horizon,
+        upper,
+        lower,
+        held,
+        ticks,
+    }
+}
+
+fn one_in(case: u64) -> u64
+    ensures { λ r. ⌜ 1 ≤ r ⌝ }
+{
+    if numbers::draw(case, 3, 4) == 0 {
+        24
+    } else {
+        1_000_000
+    }
+}
+
+// A size below `end`; now and then one that no legal state has, or only one with 256 windows.
+fn draw_size(case: u64, k: u64, end: u64) -> usize
+    requires { ⌜ 1 ≤ end ⌝ }
+{
+    let kind = numbers::draw(case, k, 24);
+    if kind == 0 {
+        return MAX_HORIZON;
+    }
+    if kind == 1 {
+        return MAX_HORIZON + 1;
+    }
+    if kind == 2 {
+        return LARGEST;
+    }
+    numbers::draw(case, k ^ 1, end) as usize
+}
+
+// 256 entries of a state, from the k-th number of the case on.
+fn draw_counts(case: u64, k: u64, odd: u64, end: u64) -> [u32; MAX_HORIZON]
+    requires { ⌜ (1 ≤ odd) × (1 ≤ end) × (end ≤ 256) ⌝ }
+{
+    let mut counts = [0; MAX_HORIZON];
+    let mut i = 0;
+    while i < MAX_HORIZON {
+        counts[i] = draw_count(case, k ^ (i as u64), odd, end);
+        i += 1;
+    }
+    counts
+}
+
+// A count below `end`, or one time in `odd` the largest figure, the number after it, or the largest count.
+fn draw_count(case: u64, k: u64, odd: u64, end: u64) -> u32
+    requires { ⌜ (1 ≤ odd) × (1 ≤ end) × (end ≤ 256) ⌝ }
+{
+    let kind = numbers::draw(case, k, odd);
+    if kind == 0 {
+        return FIGURE_LIMIT;
+    }
+    if kind == 1 {
+        return FIGURE_LIMIT + 1;
+    }
+    if kind == 2 {
+        return 4_294_967_295;
+    }
+    numbers::draw(case, k ^ 8_192, end) as u32
+}
+
+// A tick of the monitor: the verdict, and the state that comes back.
+fn try_monitor(monitor: Monitor, count: u32) {
+    let judgement = monitor.tick(count);
+    let verdict = judgement.verdict;
+    let next = judgement.next;
+    show_verdict(verdict);
+    numbers::show(next.failed as u64);
+    show_history(next.history, is_passed(verdict));
+}
+
+// Its kind, and the window that it names.
+fn show_verdict(verdict: Verdict) {
+    match verdict {
+        Verdict::Passed => numbers::show_two(0, 0),
+        Verdict::TooMany { window } => numbers::show_two(1, window as u64),
+        Verdict::TooFew { window } => numbers::show_two(2, window as u64),
+        Verdict::AlreadyFailed => numbers::show_two(3, 0),
+        Verdict::BadState => numbers::show_two(12, 0),
+    }
+}
+
+fn is_passed(verdict: Verdict) -> bool {
+    match verdict {
+        Verdict::Passed => true,
+        Verdict::TooMany { window: _ } => false,
+        Verdict::TooFew { window: _ } => false,
+        Verdict::AlreadyFailed => false,
+        Verdict::BadState => false,
+    }
+}
+
+// A look, a tick of the generator, and the state that comes back.
+fn try_generator(generator: Generator, choice: u32) {
+    let admissible = generator.range();
+    show_range(admissible);
+    let sent = generator.tick(choice);
+    let sending = sent.sending;
+    let next = sent.next;
+    show_sending(sending);
+    show_history(next.history, is_sent(sending));
+}
+
+fn show_range(admissible: Admissible) {
+    match admissible {
+        Admissible::Range { lo, hi } => numbers::show_two(lo as u64, hi as u64),
+        Admissible::BadState => numbers::show_two(12, 0),
+        Admissible::NoCount => numbers::show_two(13, 0),
+    }
+}
+
+fn show_sending(sending: Sending) {
+    match sending {
+        Sending::Sent { count } => numbers::show_two(0, count as u64),
+        Sending::BadState => numbers::show_two(12, 0),
+        Sending::NoCount => numbers::show_two(13, 0),
+    }
+}
+
+fn is_sent(sending: Sending) -> bool {
+    match sending {
+        Sending::Sent { count: _ } => true,
+        Sending::BadState => false,
+        Sending::NoCount => false,
+    }
+}
+
+// The view of a state after a tick that was added; else every entry, since the very state comes back.
+fn show_history(history: History, added: bool) {
+    numbers::show_two(history.horizon as u64, history.held as u64);
+    let upper = history.upper;
+    let lower = history.lower;
+    let ticks = history.ticks;
+    show_entries(upper, history.horizon, added);
+    show_entries(lower, history.horizon, added);
+    show_entries(ticks, history.held, added);
+}
+
+// The first n entries, or all.
+fn show_entries(entries: [u32; MAX_HORIZON], n: usize, view: bool) {
+    let k = shown(n, view);
+    numbers::show(numbers::digest(&entries[..k]));
+}
+
+fn shown(n: usize, view: bool) -> usize
+    ensures { λ r. ⌜ r ≤ 256 ⌝ }
+{
+    if MAX_HORIZON < n {
+        return MAX_HORIZON;
+    }
+    if view { n } else { MAX_HORIZON }
+}
