@@ -18,7 +18,10 @@
 extern "C" {
 #endif
 
-/* What calgedze_close and calgedze_read answer: the refusal's number in the upper 32 bits, a value in the lower. One of the two is 0. */
+/*
+ * What calgedze_close and calgedze_read answer: the refusal's number in the upper 32 bits, a value in the lower,
+ * which is 0 on a refusal.
+ */
 typedef uint64_t calgedze_answer;
 
 #define CALGEDZE_REFUSAL(answer) ((uint32_t)((answer) >> 32))

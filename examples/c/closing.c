@@ -1,0 +1,87 @@
+/*
+ * Closes a pair of arrival curves, shows how a refusal is told, generates a stream on a closure and judges it.
+ *
+ *     gcc -std=c99 -Iinclude examples/c/closing.c target/staticlib/libexports.a -o target/closing
+ */
+#include <stdio.h>
+
+#include "calgedze.h"
+
+static void print_list(const char *name, const uint32_t *list, size_t length)
+{
+    printf("%-9s", name);
+    for (size_t i = 0; i < length; i++)
+        printf(" %lu", (unsigned long)list[i]);
+    printf("\n");
+}
+
+/* Closes a pair and prints what comes of it. Gives back 1 where there is a closure. */
+static int close_and_print(const uint32_t *ceilings, const uint32_t *leasts, uint32_t *upper, uint32_t *lower, size_t horizon)
+{
+    calgedze_answer answer = calgedze_close(ceilings, horizon, leasts, horizon, upper, horizon, lower, horizon);
+
+    print_list("ceilings", ceilings, horizon);
+    print_list("leasts", leasts, horizon);
+    if (CALGEDZE_REFUSAL(answer) != 0) {
+        printf("refused with %lu\n\n", (unsigned long)CALGEDZE_REFUSAL(answer));
+        return 0;
+    }
+    printf("closed, rounds that changed a figure: %lu\n", (unsigned long)CALGEDZE_VALUE(answer));
+    print_list("ceilings", upper, horizon);
+    print_list("leasts", lower, horizon);
+    printf("\n");
+    return 1;
+}
+
+static void print_verdict(uint32_t verdict)
+{
+    if (verdict == CALGEDZE_PASSED)
+        printf(" passed");
+    else if (verdict == CALGEDZE_ALREADY_FAILED)
+        printf(" already-failed");
+    else if (verdict > CALGEDZE_TOO_FEW)
+        printf(" too-few-in-%lu", (unsigned long)(verdict - CALGEDZE_TOO_FEW));
+    else
+        printf(" too-many-in-%lu", (unsigned long)(verdict - CALGEDZE_TOO_MANY));
+}
+
+static void judge_and_print(const uint32_t *upper, const uint32_t *lower, size_t horizon, uint32_t *script, size_t length)
+{
+    uint32_t refusal;
+
+    print_list("counts", script, length);
+    refusal = calgedze_judge(upper, horizon, lower, horizon, script, length);
+    if (refusal != 0) {
+        printf("refused with %lu\n", (unsigned long)refusal);
+        return;
+    }
+    printf("verdicts ");
+    for (size_t i = 0; i < length; i++)
+        print_verdict(script[i]);
+    printf("\n");
+}
+
+int main(void)
+{
+    /* At most 3 in three ticks and at least 5 in five leave one stream only: one a tick. */
+    const uint32_t ceilings[5] = {3, 6, 3, 12, 9}, leasts[5] = {0, 0, 0, 0, 5};
+    /* No least is above its ceiling, yet no stream keeps these: 3 ticks need 4, and 2 ticks have 2 at most. */
+    const uint32_t few[3] = {2, 2, 5}, many[3] = {0, 0, 4};
+    /* Closing finds that three ticks need one at least, since four need 3 and one has 2 at most. */
+    const uint32_t most[4] = {2, 3, 5, 5}, least[4] = {0, 0, 0, 3};
+    uint32_t script[10] = {5, 7, 0, 2, 1, 4000000000u, 3, 0, 8, 6};
+    uint32_t bad[6] = {2, 0, 0, 1, 1, 1};
+    uint32_t upper[5], lower[5];
+
+    close_and_print(ceilings, leasts, upper, lower, 5);
+    close_and_print(few, many, upper, lower, 3);
+    if (!close_and_print(most, least, upper, lower, 4))
+        return 1;
+
+    /* On the curves of a closure there is always a count to send, so no entry of the script becomes a refusal. */
+    print_list("choices", script, 10);
+    calgedze_generate(upper, 4, lower, 4, script, 10);
+    judge_and_print(upper, lower, 4, script, 10);
+    judge_and_print(upper, lower, 4, bad, 6);
+    return 0;
+}

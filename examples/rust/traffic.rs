@@ -1,0 +1,185 @@
+//! Reads a constraint text, closes its curves, generates twenty ticks of traffic on them and judges it; then a stream that goes wrong.
+//!
+//!     rustc --edition 2021 examples/rust/traffic.rs -L native=target/staticlib -l static=exports -o target/traffic
+
+extern "C" {
+    fn calgedze_close(
+        ceilings: *const u32,
+        ceilings_length: usize,
+        leasts: *const u32,
+        leasts_length: usize,
+        upper: *mut u32,
+        upper_length: usize,
+        lower: *mut u32,
+        lower_length: usize,
+    ) -> u64;
+    fn calgedze_read(
+        text: *const u8,
+        text_length: usize,
+        upper: *mut u32,
+        upper_length: usize,
+        lower: *mut u32,
+        lower_length: usize,
+    ) -> u64;
+    fn calgedze_judge(
+        ceilings: *const u32,
+        ceilings_length: usize,
+        leasts: *const u32,
+        leasts_length: usize,
+        script: *mut u32,
+        script_length: usize,
+    ) -> u32;
+    fn calgedze_generate(
+        ceilings: *const u32,
+        ceilings_length: usize,
+        leasts: *const u32,
+        leasts_length: usize,
+        script: *mut u32,
+        script_length: usize,
+    ) -> u32;
+}
+
+/// A refusal by its number.
+#[derive(Debug)]
+struct Refusal(u32);
+
+/// The most and the least of the windows of 1, 2, 3 and so on ticks.
+struct Curves {
+    ceilings: Vec<u32>,
+    leasts: Vec<u32>,
+}
+
+enum Verdict {
+    Passed,
+    TooMany(u32),
+    TooFew(u32),
+    AlreadyFailed,
+}
+
+/// An answer has a refusal's number in its upper half or a value in its lower.
+fn value(answer: u64) -> Result<u32, Refusal> {
+    match (answer >> 32) as u32 {
+        0 => Ok(answer as u32),
+        number => Err(Refusal(number)),
+    }
+}
+
+/// Only an opening can be refused as a whole.
+fn opened(number: u32) -> Result<(), Refusal> {
+    match number {
+        0 => Ok(()),
+        number => Err(Refusal(number)),
+    }
+}
+
+fn read(text: &[u8]) -> Result<Curves, Refusal> {
+    // No text names a window longer than 256 ticks.
+    let (mut ceilings, mut leasts) = (vec![0; 256], vec![0; 256]);
+    // SAFETY: each pointer goes with the length of its list, and the two lists that are written are apart.
+    let answer = unsafe { calgedze_read(text.as_ptr(), text.len(), ceilings.as_mut_ptr(), 256, leasts.as_mut_ptr(), 256) };
+    let horizon = value(answer)? as usize;
+    ceilings.truncate(horizon);
+    leasts.truncate(horizon);
+    Ok(Curves { ceilings, leasts })
+}
+
+impl Curves {
+    fn horizon(&self) -> usize {
+        self.ceilings.len()
+    }
+
+    /// The closed curves and the count of rounds that it took.
+    fn close(&self) -> Result<(Curves, u32), Refusal> {
+        let horizon = self.horizon();
+        let mut closed = Curves {
+            ceilings: vec![0; horizon],
+            leasts: vec![0; horizon],
+        };
+        let (upper, lower) = (closed.ceilings.as_mut_ptr(), closed.leasts.as_mut_ptr());
+        // SAFETY: all four lists have `horizon` entries, and the two that are written are apart from the others.
+        let answer = unsafe {
+            calgedze_close(
+                self.ceilings.as_ptr(),
+                horizon,
+                self.leasts.as_ptr(),
+                horizon,
+                upper,
+                horizon,
+                lower,
+                horizon,
+            )
+        };
+        let rounds = value(answer)?;
+        Ok((closed, rounds))
+    }
+
+    /// The counts that a generator sends for these choices.
+    fn generate(&self, choices: &[u32]) -> Result<Vec<u32>, Refusal> {
+        let mut script = choices.to_vec();
+        let (ceilings, leasts) = (self.ceilings.as_ptr(), self.leasts.as_ptr());
+        // SAFETY: each pointer goes with the length of its list.
+        opened(unsafe { calgedze_generate(ceilings, self.horizon(), leasts, self.horizon(), script.as_mut_ptr(), script.len()) })?;
+        Ok(script)
+    }
+
+    /// What a monitor says of these counts.
+    fn judge(&self, counts: &[u32]) -> Result<Vec<Verdict>, Refusal> {
+        let mut script = counts.to_vec();
+        let (ceilings, leasts) = (self.ceilings.as_ptr(), self.leasts.as_ptr());
+        // SAFETY: each pointer goes with the length of its list.
+        opened(unsafe { calgedze_judge(ceilings, self.horizon(), leasts, self.horizon(), script.as_mut_ptr(), script.len()) })?;
+        Ok(script.into_iter().map(verdict).collect())
+    }
+}
+
+fn verdict(entry: u32) -> Verdict {
+    match entry {
+        0 => Verdict::Passed,
+        1_001..=1_256 => Verdict::TooMany(entry - 1_000),
+        2_001..=2_256 => Verdict::TooFew(entry - 2_000),
+        _ => Verdict::AlreadyFailed,
+    }
+}
+
+fn print_curves(name: &str, curves: &Curves) {
+    println!("{name}: ceilings {:?}, leasts {:?}", curves.ceilings, curves.leasts);
+}
+
+fn print_verdicts(counts: &[u32], verdicts: &[Verdict]) {
+    let passed = verdicts.iter().filter(|verdict| matches!(verdict, Verdict::Passed)).count();
+    println!("{passed} of {} ticks passed", verdicts.len());
+    for (tick, (count, verdict)) in counts.iter().zip(verdicts).enumerate() {
+        match verdict {
+            Verdict::Passed => {}
+            Verdict::TooMany(window) => println!("tick {tick}, count {count}: too many in the window of {window} ending there"),
+            Verdict::TooFew(window) => println!("tick {tick}, count {count}: too few in the window of {window} ending there"),
+            Verdict::AlreadyFailed => println!("tick {tick}, count {count}: already failed"),
+        }
+    }
+}
+
+fn run() -> Result<(), Refusal> {
+    // At most 3 in two ticks, 4 to 9 in five, 10 to 14 in eight.
+    let given = read(b"window,least,most\r\n2,0,3\r\n5,4,9\r\n8,10,14\r\n")?;
+    print_curves("as written", &given);
+    let (closed, rounds) = given.close()?;
+    print_curves("closed", &closed);
+    println!("rounds that changed a figure: {rounds}");
+
+    let choices: Vec<u32> = (0..20).map(|tick| 7 * tick * tick + 3).collect();
+    let sent = closed.generate(&choices)?;
+    println!("sent: {sent:?}");
+    print_verdicts(&sent, &closed.judge(&sent)?);
+
+    // The same traffic with two messages missing in tick 16: every window up to 7 ticks still has enough.
+    let mut wrong = sent;
+    wrong[16] -= 2;
+    print_verdicts(&wrong, &closed.judge(&wrong)?);
+    Ok(())
+}
+
+fn main() {
+    if let Err(Refusal(number)) = run() {
+        println!("refused with {number}");
+    }
+}

@@ -1,0 +1,130 @@
+//! What is timed. Each case gives back all that it got, so that the contenders' results can be compared.
+
+use crate::contender::Contender;
+use crate::product::Product;
+use crate::subject::{Subject, LIMIT};
+
+const TICKS: usize = 200_000;
+
+pub struct Case {
+    pub name: &'static str,
+    /// How many operations one run has.
+    pub calls: usize,
+    pub run: fn(&Case, &Contender) -> Vec<u32>,
+    ceilings: Vec<u32>,
+    leasts: Vec<u32>,
+    script: Vec<u32>,
+    text: Vec<u8>,
+}
+
+fn close(case: &Case, contender: &Contender) -> Vec<u32> {
+    let horizon = case.ceilings.len();
+    let (mut upper, mut lower) = (vec![0; horizon], vec![0; horizon]);
+    let mut rounds = 0;
+    for _ in 0..case.calls {
+        rounds = (contender.close)(&case.ceilings, &case.leasts, &mut upper, &mut lower);
+    }
+    upper.extend(lower);
+    upper.push(rounds as u32);
+    upper
+}
+
+fn judge(case: &Case, contender: &Contender) -> Vec<u32> {
+    let mut script = case.script.clone();
+    (contender.judge)(&case.ceilings, &case.leasts, &mut script);
+    script
+}
+
+fn generate(case: &Case, contender: &Contender) -> Vec<u32> {
+    let mut script = case.script.clone();
+    (contender.generate)(&case.ceilings, &case.leasts, &mut script);
+    script
+}
+
+fn read(case: &Case, contender: &Contender) -> Vec<u32> {
+    let (mut upper, mut lower) = (vec![0; 256], vec![0; 256]);
+    let mut horizon = 0;
+    for _ in 0..case.calls {
+        horizon = (contender.read)(&case.text, &mut upper, &mut lower);
+    }
+    upper.extend(lower);
+    upper.push(horizon as u32);
+    upper
+}
+
+/// Two windows with a word each: nine rounds, the most that there are.
+fn closing() -> Case {
+    let (mut ceilings, mut leasts) = (vec![LIMIT; 256], vec![0; 256]);
+    ceilings[4] = 200_000;
+    leasts[252] = 10_120_000;
+    Case {
+        name: "closing, 256, 9 rounds",
+        calls: 20,
+        run: close,
+        ceilings,
+        leasts,
+        script: Vec::new(),
+        text: Vec::new(),
+    }
+}
+
+/// Closed curves about 5 in 2 ticks, with room for a burst: each tick has several counts to choose from.
+fn curves(horizon: u32) -> (Vec<u32>, Vec<u32>) {
+    let ceilings: Vec<u32> = (1..=horizon).map(|window| 5 * window / 2 + 9).collect();
+    let leasts: Vec<u32> = (1..=horizon).map(|window| (5 * window / 2).saturating_sub(9)).collect();
+    let (mut upper, mut lower) = (ceilings.clone(), leasts.clone());
+    Product.close(&ceilings, &leasts, &mut upper, &mut lower);
+    (upper, lower)
+}
+
+fn choices() -> Vec<u32> {
+    (0..TICKS as u32).map(|tick| tick.wrapping_mul(2_654_435_761) >> 7).collect()
+}
+
+fn generator(name: &'static str, horizon: u32) -> Case {
+    let (ceilings, leasts) = curves(horizon);
+    Case {
+        name,
+        calls: TICKS,
+        run: generate,
+        ceilings,
+        leasts,
+        script: choices(),
+        text: Vec::new(),
+    }
+}
+
+/// The stream that a generator sends on the same curves, so that every tick is passed and every window judged.
+fn monitor(name: &'static str, horizon: u32) -> Case {
+    let mut case = generator(name, horizon);
+    Product.generate(&case.ceilings, &case.leasts, &mut case.script);
+    case.run = judge;
+    case
+}
+
+fn reading() -> Case {
+    let mut text = b"window,least,most\r\n".to_vec();
+    for window in 1..=256u32 {
+        text.extend(format!("{window},{},{}\r\n", 200 * window, 250 * window + 99).bytes());
+    }
+    Case {
+        name: "reading, 256 records",
+        calls: 400,
+        run: read,
+        ceilings: Vec::new(),
+        leasts: Vec::new(),
+        script: Vec::new(),
+        text,
+    }
+}
+
+pub fn all() -> Vec<Case> {
+    vec![
+        closing(),
+        monitor("monitor tick, 256", 256),
+        monitor("monitor tick, 16", 16),
+        generator("generator tick, 256", 256),
+        generator("generator tick, 16", 16),
+        reading(),
+    ]
+}

@@ -1,0 +1,46 @@
+//! Those whose times are compared.
+
+use crate::product::Product;
+use crate::subject::Subject;
+use crate::{builds, plain};
+
+type Close = fn(&[u32], &[u32], &mut [u32], &mut [u32]) -> u64;
+type Script = fn(&[u32], &[u32], &mut [u32]) -> u32;
+type Read = fn(&[u8], &mut [u32], &mut [u32]) -> u64;
+
+pub struct Contender {
+    pub name: &'static str,
+    pub close: Close,
+    pub judge: Script,
+    pub generate: Script,
+    pub read: Read,
+}
+
+/// The product first. The last runs only where the machine has the instructions.
+pub fn all() -> Vec<Contender> {
+    let mut list = vec![
+        Contender {
+            name: "product",
+            close: |ceilings, leasts, upper, lower| Product.close(ceilings, leasts, upper, lower),
+            judge: |ceilings, leasts, script| Product.judge(ceilings, leasts, script),
+            generate: |ceilings, leasts, script| Product.generate(ceilings, leasts, script),
+            read: |text, upper, lower| Product.read(text, upper, lower),
+        },
+        Contender {
+            name: "same",
+            close: plain::close,
+            judge: plain::judge,
+            generate: plain::generate,
+            read: plain::read,
+        },
+        Contender {
+            name: "fastest",
+            close: builds::close,
+            judge: builds::judge,
+            generate: builds::generate,
+            read: builds::read,
+        },
+    ];
+    list.extend(builds::with_avx2());
+    list
+}

@@ -1,0 +1,228 @@
+//! The fastest forms that were found: closing with the windows of one block side by side in registers and the parts outside, scripts on
+//! running sums without a way out in the middle, reading without looking back. All are inlined into the builds that use them.
+
+use crate::plain;
+use crate::ring::Ring;
+use crate::subject::{refused, ALREADY_FAILED, HEADER, LIMIT, LONGEST_HORIZON, NO_COUNT, PASSED, TOO_FEW, TOO_MANY};
+
+/// Windows of one block.
+const BLOCK: usize = 32;
+/// A curve has a block's room before its entry of 1 tick and after its last one, filled so that no candidate from there wins.
+const SIZE: usize = LONGEST_HORIZON + 2 * BLOCK;
+const FAR: i32 = 1 << 29;
+
+type Curve = [i32; SIZE];
+
+/// The figure of window d stands at FIRST + d.
+const FIRST: usize = BLOCK - 1;
+
+fn curve(figures: &[u32], filler: i32) -> Curve {
+    let mut curve = [filler; SIZE];
+    for (entry, figure) in curve[FIRST + 1..].iter_mut().zip(figures) {
+        *entry = *figure as i32;
+    }
+    curve
+}
+
+#[inline(always)]
+fn block(curve: &Curve, start: usize) -> &[i32; BLOCK] {
+    curve[start..start + BLOCK].first_chunk().unwrap_or(&[0; BLOCK])
+}
+
+/// The new figures of the windows from `d` on, one block.
+#[inline(always)]
+fn round_block(upper: &Curve, lower: &Curve, d: usize, horizon: usize) -> ([i32; BLOCK], [i32; BLOCK]) {
+    let (mut ceilings, mut leasts) = (*block(upper, FIRST + d), *block(lower, FIRST + d));
+    // The two parts of a cut can be taken in either order, so the first need not be the longer one.
+    for a in 1..=((d + BLOCK - 1) / 2).min(horizon) {
+        let (ceiling, least) = (upper[FIRST + a], lower[FIRST + a]);
+        let (other_ceilings, other_leasts) = (block(upper, FIRST + d - a), block(lower, FIRST + d - a));
+        for place in 0..BLOCK {
+            ceilings[place] = ceilings[place].min(other_ceilings[place] + ceiling);
+            leasts[place] = leasts[place].max(other_leasts[place] + least);
+        }
+    }
+    for t in 1..=horizon - d {
+        let (ceiling, least) = (upper[FIRST + t], lower[FIRST + t]);
+        let (whole_ceilings, whole_leasts) = (block(upper, FIRST + d + t), block(lower, FIRST + d + t));
+        for place in 0..BLOCK {
+            ceilings[place] = ceilings[place].min(whole_ceilings[place] - least);
+            leasts[place] = leasts[place].max(whole_leasts[place] - ceiling);
+        }
+    }
+    (ceilings, leasts)
+}
+
+/// One round; whether it changed a figure. What is beyond the horizon keeps its filler.
+#[inline(always)]
+fn round(upper: &mut Curve, lower: &mut Curve, horizon: usize) -> bool {
+    let (old_upper, old_lower) = (*upper, *lower);
+    for d in (1..=horizon).step_by(BLOCK) {
+        let (ceilings, leasts) = round_block(&old_upper, &old_lower, d, horizon);
+        let inside = BLOCK.min(horizon + 1 - d);
+        upper[FIRST + d..FIRST + d + inside].copy_from_slice(&ceilings[..inside]);
+        lower[FIRST + d..FIRST + d + inside].copy_from_slice(&leasts[..inside]);
+    }
+    *upper != old_upper || *lower != old_lower
+}
+
+#[inline(always)]
+pub fn close_core(ceilings: &[u32], leasts: &[u32], upper: &mut [u32], lower: &mut [u32]) -> u64 {
+    let horizon = ceilings.len();
+    let (mut ceiling, mut least) = (curve(ceilings, FAR), curve(leasts, -FAR));
+    let inside = FIRST + 1..FIRST + 1 + horizon;
+    let mut rounds = 0;
+    loop {
+        if ceiling[inside.clone()]
+            .iter()
+            .zip(&least[inside.clone()])
+            .any(|(ceiling, least)| least > ceiling)
+        {
+            return refused(5);
+        }
+        if !round(&mut ceiling, &mut least, horizon) {
+            break;
+        }
+        rounds += 1;
+    }
+    upper
+        .iter_mut()
+        .zip(&ceiling[inside.clone()])
+        .for_each(|(entry, figure)| *entry = *figure as u32);
+    lower
+        .iter_mut()
+        .zip(&least[inside])
+        .for_each(|(entry, figure)| *entry = *figure as u32);
+    rounds
+}
+
+/// Whether some window is outside. The sums fit: what is held keeps its ceilings, and the count is at most a ceiling.
+#[inline(always)]
+fn outside(ring: &Ring, ceilings: &[u32], leasts: &[u32], count: u32) -> bool {
+    let (before, latest) = ring.before();
+    let next = latest.wrapping_add(count as i32);
+    let mut found = false;
+    for ((sum, ceiling), least) in before.iter().zip(ceilings).zip(leasts) {
+        let window = next.wrapping_sub(*sum);
+        found |= (window > *ceiling as i32) | (window < *least as i32);
+    }
+    found
+}
+
+/// Only once in a script: which window it was.
+fn verdict(ring: &Ring, ceilings: &[u32], leasts: &[u32], count: u32) -> u32 {
+    let (before, latest) = ring.before();
+    for (place, sum) in before.iter().enumerate() {
+        let window = i64::from(latest.wrapping_sub(*sum)) + i64::from(count);
+        if window > i64::from(ceilings[place]) {
+            return TOO_MANY + 1 + place as u32;
+        }
+        if window < i64::from(leasts[place]) {
+            return TOO_FEW + 1 + place as u32;
+        }
+    }
+    PASSED
+}
+
+#[inline(always)]
+pub fn judge_core(ceilings: &[u32], leasts: &[u32], script: &mut [u32]) -> u32 {
+    let mut ring = Ring::new(ceilings.len());
+    for tick in 0..script.len() {
+        let count = script[tick];
+        if count > LIMIT || outside(&ring, ceilings, leasts, count) {
+            script[tick] = verdict(&ring, ceilings, leasts, count);
+            script[tick + 1..].fill(ALREADY_FAILED);
+            break;
+        }
+        ring.hold(count);
+        script[tick] = PASSED;
+    }
+    0
+}
+
+#[inline(always)]
+fn bounds(ring: &Ring, ceilings: &[u32], leasts: &[u32]) -> (i32, i32) {
+    let (before, latest) = ring.before();
+    let (mut lo, mut hi) = (0, i32::MAX);
+    for ((sum, ceiling), least) in before.iter().zip(ceilings).zip(leasts) {
+        let earlier = latest.wrapping_sub(*sum);
+        hi = hi.min(*ceiling as i32 - earlier);
+        lo = lo.max(*least as i32 - earlier);
+    }
+    (lo, hi)
+}
+
+#[inline(always)]
+pub fn generate_core(ceilings: &[u32], leasts: &[u32], script: &mut [u32]) -> u32 {
+    let mut ring = Ring::new(ceilings.len());
+    for tick in 0..script.len() {
+        let (lo, hi) = bounds(&ring, ceilings, leasts);
+        if lo > hi {
+            script[tick..].fill(NO_COUNT);
+            break;
+        }
+        let count = lo as u32 + script[tick] % (hi - lo + 1) as u32;
+        ring.hold(count);
+        script[tick] = count;
+    }
+    0
+}
+
+/// A number of 1 to 5 digits with no leading zero from `place` on, and where it ends.
+#[inline(always)]
+fn number(text: &[u8], place: usize) -> Option<(u32, usize)> {
+    let digit = |at: usize| text.get(at).map_or(10, |byte| u32::from(byte.wrapping_sub(b'0')));
+    let mut value = digit(place);
+    if value > 9 {
+        return None;
+    }
+    let mut end = place + 1;
+    while digit(end) <= 9 {
+        value = value.wrapping_mul(10).wrapping_add(digit(end));
+        end += 1;
+    }
+    if end - place > 5 || (end - place > 1 && text[place] == b'0') {
+        return None;
+    }
+    Some((value, end))
+}
+
+/// Reads a text without faults whose records all end with CR LF; nothing where it is another.
+#[inline(always)]
+fn read_good(text: &[u8], upper: &mut [u32], lower: &mut [u32]) -> Option<u64> {
+    let mut ceilings = [u32::MAX; LONGEST_HORIZON + 1];
+    let mut leasts = [0; LONGEST_HORIZON + 1];
+    let (mut place, mut horizon, mut smallest) = (HEADER.len() + 2, 0, u32::MAX);
+    if text.get(..place)? != b"window,least,most\r\n" || text.len() > 16_384 {
+        return None;
+    }
+    while place < text.len() {
+        let (window, end) = number(text, place)?;
+        let (least, next) = number(text, end + 1)?;
+        let (most, last) = number(text, next + 1)?;
+        let separated = text[end] == b',' && text[next] == b',' && text.get(last..last + 2)? == b"\r\n";
+        let in_range = window.wrapping_sub(1) < 256 && least < 65_536 && most < 65_536;
+        if !separated || !in_range || ceilings[window as usize] != u32::MAX {
+            return None;
+        }
+        (ceilings[window as usize], leasts[window as usize]) = (most, least);
+        horizon = horizon.max(window as usize);
+        smallest = smallest.min(most);
+        place = last + 2;
+    }
+    let (upper, lower) = (upper.get_mut(..horizon)?, lower.get_mut(..horizon)?);
+    lower.copy_from_slice(&leasts[1..=horizon]);
+    for (window, (entry, ceiling)) in (1..).zip(upper.iter_mut().zip(&ceilings[1..])) {
+        *entry = if *ceiling == u32::MAX { window * smallest } else { *ceiling };
+    }
+    if horizon > 0 {
+        Some(horizon as u64)
+    } else {
+        None
+    }
+}
+
+#[inline(always)]
+pub fn read_core(text: &[u8], upper: &mut [u32], lower: &mut [u32]) -> u64 {
+    read_good(text, upper, lower).unwrap_or_else(|| plain::read(text, upper, lower))
+}

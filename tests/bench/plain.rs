@@ -1,0 +1,267 @@
+//! The same algorithms as a plain Rust program would have them: for each window its candidates, one after the other, in 32 bits; states
+//! that go in and come out by value and are asked about at each tick; one pass over the text. No loop that matters has a bounds check.
+
+use crate::subject::{
+    refused, ALREADY_FAILED, HEADER, LIMIT, LONGEST_HORIZON, LONGEST_TEXT, NO_COUNT, PASSED, TEXT_LIMIT, TOO_FEW, TOO_MANY,
+};
+
+pub fn opening(ceilings: &[u32], leasts: &[u32]) -> u32 {
+    match ceilings.len() {
+        1..=LONGEST_HORIZON if leasts.len() != ceilings.len() => 2,
+        1..=LONGEST_HORIZON if ceilings.iter().chain(leasts).any(|&figure| figure > LIMIT) => 4,
+        1..=LONGEST_HORIZON => 0,
+        _ => 1,
+    }
+}
+
+/// The new figures of one window: over the places to cut it, then over the ways to make it longer. A difference below 0 is cut off
+/// there: the figures cross in another window of the same round then.
+fn figures(upper: &[u32], lower: &[u32], d: usize) -> (u32, u32) {
+    let (mut ceiling, mut least) = (upper[d - 1], lower[d - 1]);
+    for a in 1..d {
+        // SAFETY: both parts of a cut are windows shorter than d.
+        let (upper_sum, lower_sum) = unsafe {
+            let (one, other) = (a - 1, d - a - 1);
+            (
+                upper.get_unchecked(one) + upper.get_unchecked(other),
+                lower.get_unchecked(one) + lower.get_unchecked(other),
+            )
+        };
+        ceiling = ceiling.min(upper_sum);
+        least = least.max(lower_sum);
+    }
+    let longer = upper[d..].iter().zip(&lower[d..]).zip(upper.iter().zip(lower));
+    for ((upper_whole, lower_whole), (upper_rest, lower_rest)) in longer {
+        ceiling = ceiling.min(upper_whole.saturating_sub(*lower_rest));
+        least = least.max(lower_whole.saturating_sub(*upper_rest));
+    }
+    (ceiling, least)
+}
+
+pub fn close(ceilings: &[u32], leasts: &[u32], upper: &mut [u32], lower: &mut [u32]) -> u64 {
+    let horizon = ceilings.len();
+    match opening(ceilings, leasts) {
+        0 | 4 if upper.len() < horizon || lower.len() < horizon => return refused(3),
+        0 => {}
+        number => return refused(number),
+    }
+    let (mut old_upper, mut old_lower) = ([0; LONGEST_HORIZON], [0; LONGEST_HORIZON]);
+    old_upper[..horizon].copy_from_slice(ceilings);
+    old_lower[..horizon].copy_from_slice(leasts);
+    let mut rounds = 0;
+    loop {
+        if old_upper[..horizon].iter().zip(&old_lower).any(|(ceiling, least)| least > ceiling) {
+            return refused(5);
+        }
+        let (mut new_upper, mut new_lower) = ([0; LONGEST_HORIZON], [0; LONGEST_HORIZON]);
+        for d in 1..=horizon {
+            (new_upper[d - 1], new_lower[d - 1]) = figures(&old_upper[..horizon], &old_lower[..horizon], d);
+        }
+        if new_upper == old_upper && new_lower == old_lower {
+            break;
+        }
+        (old_upper, old_lower) = (new_upper, new_lower);
+        rounds += 1;
+    }
+    upper[..horizon].copy_from_slice(&old_upper[..horizon]);
+    lower[..horizon].copy_from_slice(&old_lower[..horizon]);
+    rounds
+}
+
+/// A state as it goes in and comes out. The last tick is held first.
+struct State {
+    ceilings: [u32; LONGEST_HORIZON],
+    leasts: [u32; LONGEST_HORIZON],
+    held: [u32; LONGEST_HORIZON],
+    horizon: usize,
+    held_ticks: usize,
+    failed: bool,
+}
+
+impl State {
+    fn open(ceilings: &[u32], leasts: &[u32]) -> State {
+        let nothing = [0; LONGEST_HORIZON];
+        let mut state = State {
+            ceilings: nothing,
+            leasts: nothing,
+            held: nothing,
+            horizon: ceilings.len(),
+            held_ticks: 0,
+            failed: false,
+        };
+        state.ceilings[..ceilings.len()].copy_from_slice(ceilings);
+        state.leasts[..leasts.len()].copy_from_slice(leasts);
+        state
+    }
+
+    /// Every figure is looked at even after one that is too great, which the compiler turns into wide instructions.
+    fn well_formed(&self) -> bool {
+        let within = |list: &[u32]| !list.iter().fold(false, |over, &figure| over | (figure > LIMIT));
+        (1..=LONGEST_HORIZON).contains(&self.horizon)
+            && self.held_ticks < self.horizon
+            && within(&self.ceilings[..self.horizon])
+            && within(&self.leasts[..self.horizon])
+    }
+
+    fn hold(mut self, count: u32) -> State {
+        let kept = self.held_ticks.min(self.horizon.saturating_sub(2));
+        self.held.copy_within(..kept, 1);
+        self.held[0] = count;
+        self.held_ticks = (self.held_ticks + 1).min(self.horizon - 1);
+        self
+    }
+
+    /// The verdict on a count: windows one after the other, up to the first that is outside.
+    fn verdict(&self, count: u32) -> u32 {
+        let mut sum = u64::from(count);
+        let windows = self.held_ticks + 1;
+        for place in 0..windows {
+            // SAFETY: there are fewer held ticks than the horizon, which is at most 256.
+            let (ceiling, least, held) = unsafe {
+                (
+                    *self.ceilings.get_unchecked(place),
+                    *self.leasts.get_unchecked(place),
+                    *self.held.get_unchecked(place),
+                )
+            };
+            if sum > u64::from(ceiling) {
+                return TOO_MANY + 1 + place as u32;
+            }
+            if sum < u64::from(least) {
+                return TOO_FEW + 1 + place as u32;
+            }
+            // After the last window this adds a tick that is not held, and nobody looks at the sum any more.
+            sum += u64::from(held);
+        }
+        PASSED
+    }
+
+    fn bounds(&self) -> (i64, i64) {
+        let (mut before, mut lo, mut hi) = (0, 0, i64::from(u32::MAX));
+        for place in 0..self.held_ticks + 1 {
+            // SAFETY: as for a verdict.
+            let (ceiling, least, held) = unsafe {
+                (
+                    *self.ceilings.get_unchecked(place),
+                    *self.leasts.get_unchecked(place),
+                    *self.held.get_unchecked(place),
+                )
+            };
+            hi = hi.min(i64::from(ceiling) - before);
+            lo = lo.max(i64::from(least) - before);
+            before += i64::from(held);
+        }
+        (lo, hi)
+    }
+
+    fn monitor_tick(self, count: u32) -> (State, u32) {
+        if !self.well_formed() {
+            return (self, 12);
+        }
+        if self.failed {
+            return (self, ALREADY_FAILED);
+        }
+        let verdict = self.verdict(count);
+        if verdict == PASSED {
+            (self.hold(count), PASSED)
+        } else {
+            (State { failed: true, ..self }, verdict)
+        }
+    }
+
+    fn generator_tick(self, choice: u32) -> (State, u32) {
+        if !self.well_formed() {
+            return (self, 12);
+        }
+        let (lo, hi) = self.bounds();
+        if lo > hi {
+            return (self, NO_COUNT);
+        }
+        let count = lo as u32 + (u64::from(choice) % (hi - lo + 1) as u64) as u32;
+        (self.hold(count), count)
+    }
+}
+
+fn run_script(ceilings: &[u32], leasts: &[u32], script: &mut [u32], tick: impl Fn(State, u32) -> (State, u32)) -> u32 {
+    let number = opening(ceilings, leasts);
+    if number != 0 {
+        return number;
+    }
+    let mut state = State::open(ceilings, leasts);
+    for entry in script {
+        (state, *entry) = tick(state, *entry);
+    }
+    0
+}
+
+pub fn judge(ceilings: &[u32], leasts: &[u32], script: &mut [u32]) -> u32 {
+    run_script(ceilings, leasts, script, State::monitor_tick)
+}
+
+pub fn generate(ceilings: &[u32], leasts: &[u32], script: &mut [u32]) -> u32 {
+    run_script(ceilings, leasts, script, State::generator_tick)
+}
+
+/// The number that stands before `end`, and what follows it.
+fn field<'a>(text: &'a [u8], end: &[u8]) -> Option<(u32, &'a [u8])> {
+    let mut value = 0;
+    for (place, byte) in text.iter().enumerate() {
+        match byte {
+            b'0'..=b'9' if place < 5 && !(place == 1 && value == 0) => value = 10 * value + u32::from(byte - b'0'),
+            _ if place > 0 && text[place..].starts_with(end) => return Some((value, &text[place + end.len()..])),
+            _ => return None,
+        }
+    }
+    // The last record may end with the text.
+    if end == b"\r\n" && !text.is_empty() {
+        Some((value, &[]))
+    } else {
+        None
+    }
+}
+
+fn record(text: &[u8]) -> Option<(u32, u32, u32, &[u8])> {
+    let (window, rest) = field(text, b",")?;
+    let (least, rest) = field(rest, b",")?;
+    let (most, rest) = field(rest, b"\r\n")?;
+    Some((window, least, most, rest))
+}
+
+fn after_header(text: &[u8]) -> Option<&[u8]> {
+    match text.strip_prefix(HEADER)? {
+        [] => Some(&[]),
+        rest => rest.strip_prefix(b"\r\n"),
+    }
+}
+
+pub fn read(text: &[u8], upper: &mut [u32], lower: &mut [u32]) -> u64 {
+    let Some(mut rest) = after_header(text).filter(|_| text.len() <= LONGEST_TEXT) else {
+        return refused(6);
+    };
+    let mut figures = [None; LONGEST_HORIZON];
+    let (mut horizon, mut smallest) = (0, u32::MAX);
+    while !rest.is_empty() {
+        let Some((window, least, most, next)) = record(rest) else {
+            return refused(7);
+        };
+        if window < 1 || window as usize > LONGEST_HORIZON || least > TEXT_LIMIT || most > TEXT_LIMIT {
+            return refused(8);
+        }
+        if figures[window as usize - 1].replace((least, most)).is_some() {
+            return refused(9);
+        }
+        horizon = horizon.max(window as usize);
+        smallest = smallest.min(most);
+        rest = next;
+    }
+    if horizon == 0 {
+        return refused(10);
+    }
+    if upper.len() < horizon || lower.len() < horizon {
+        return refused(11);
+    }
+    for (place, named) in figures[..horizon].iter().enumerate() {
+        (lower[place], upper[place]) = named.unwrap_or((0, (place as u32 + 1) * smallest));
+    }
+    horizon as u64
+}

@@ -1,0 +1,78 @@
+//! What is compared, and how much of it.
+
+use crate::random::Rng;
+use crate::subject::Subject;
+use crate::tally::Tally;
+use crate::workers::Work;
+use crate::{closings, known, promises, reading, scripts};
+
+pub struct Comparison {
+    pub name: &'static str,
+    /// How many cases in a run with factor 1.
+    pub cases: u64,
+    /// How many for a mutant.
+    pub sample: u64,
+    pub one: fn(&dyn Subject, &mut Rng, &mut Tally) -> Result<(), String>,
+}
+
+/// The comparison that uses no expected figures at all.
+pub const PROMISES: &str = "promises of closures";
+
+pub const COMPARISONS: &[Comparison] = &[
+    Comparison {
+        name: "closings",
+        cases: 1_000_000,
+        sample: 2_000,
+        one: closings::compare,
+    },
+    Comparison {
+        name: "texts",
+        cases: 100_000,
+        sample: 4_000,
+        one: reading::compare_reading,
+    },
+    Comparison {
+        name: "monitor scripts",
+        cases: 20_000,
+        sample: 600,
+        one: scripts::compare_monitor,
+    },
+    Comparison {
+        name: "generator scripts",
+        cases: 20_000,
+        sample: 600,
+        one: scripts::compare_generator,
+    },
+    Comparison {
+        name: PROMISES,
+        cases: 20_000,
+        sample: 300,
+        one: promises::compare,
+    },
+    Comparison {
+        name: "closings, long",
+        cases: 3_000,
+        sample: 100,
+        one: closings::compare_long,
+    },
+    Comparison {
+        name: "known figures",
+        cases: 1,
+        sample: 1,
+        one: known::compare,
+    },
+];
+
+/// The number of the comparison that the figures program stands in, which no mutant has.
+pub const PROGRAM: usize = COMPARISONS.len();
+pub const PROGRAM_CASES: u64 = 2_000;
+
+/// The same numbers for the product and for mutants: a sample is the first cases of the whole.
+pub fn work_of(number: usize, cases: u64, seed: u64) -> Work {
+    Work {
+        seed,
+        comparison: number as u64,
+        cases,
+        chunk: 50,
+    }
+}

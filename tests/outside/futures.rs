@@ -1,0 +1,125 @@
+//! Which starts can go on for ever, for small figures, by looking at all that can happen. A stream's past matters through its last
+//! counts only, fewer than the horizon, so there are few pasts; the ones that can go on are the greatest set of them in which each has a
+//! next one that is in the set too.
+
+use crate::pairs::Pair;
+use crate::streams::verdict;
+use crate::subject::PASSED;
+
+/// A past: the last counts, fewer than the horizon. It has fewer than the horizon less one only when the stream began with it.
+pub type Past = Vec<u32>;
+
+pub struct Futures {
+    horizon: usize,
+    /// Counts from 0 to this are tried; no greater one keeps the window of one tick.
+    pub top: u32,
+    /// Every past, each list of counts as a number: the short ones first.
+    pasts: Vec<Past>,
+    /// For each past and each count the past that follows, where the count keeps every window that ends there.
+    next: Vec<Vec<Option<usize>>>,
+    lives: Vec<bool>,
+}
+
+/// All lists of counts from 0 to `top` with fewer than `horizon` entries, in the order in which `place` counts them.
+fn all_pasts(horizon: usize, top: u32) -> Vec<Past> {
+    let mut list: Vec<Past> = vec![Vec::new()];
+    let mut last = list.clone();
+    for _ in 1..horizon {
+        last = last
+            .iter()
+            .flat_map(|past| (0..=top).map(|count| [past.as_slice(), &[count]].concat()))
+            .collect();
+        list.extend(last.iter().cloned());
+    }
+    list
+}
+
+/// Where a past stands among all of them: after all the shorter ones, then as a number with one digit for each count.
+fn place(past: &[u32], top: u32) -> usize {
+    let base = top as usize + 1;
+    let shorter: usize = (0..past.len() as u32).map(|length| base.pow(length)).sum();
+    shorter + past.iter().fold(0, |number, &count| number * base + count as usize)
+}
+
+impl Futures {
+    pub fn new(pair: &Pair) -> Futures {
+        let (horizon, top) = (pair.horizon(), pair.ceilings[0]);
+        let pasts = all_pasts(horizon, top);
+        let next = pasts
+            .iter()
+            .map(|past| (0..=top).map(|count| follow(pair, past, count)).collect())
+            .collect();
+        let lives = vec![true; pasts.len()];
+        let mut futures = Futures {
+            horizon,
+            top,
+            pasts,
+            next,
+            lives,
+        };
+        while futures.drop_dead_ends() {}
+        futures
+    }
+
+    /// Takes out every past that no count leads on from; whether there was one.
+    fn drop_dead_ends(&mut self) -> bool {
+        let mut dropped = false;
+        for past in 0..self.pasts.len() {
+            let goes_on = self.next[past].iter().flatten().any(|&follower| self.lives[follower]);
+            if self.lives[past] && !goes_on {
+                self.lives[past] = false;
+                dropped = true;
+            }
+        }
+        dropped
+    }
+
+    pub fn any_stream(&self) -> bool {
+        self.lives[0]
+    }
+
+    /// The counts with which some unbounded stream goes on after a past.
+    pub fn counts_after(&self, past: &[u32]) -> Vec<u32> {
+        let followers = &self.next[place(past, self.top)];
+        (0..=self.top)
+            .filter(|&count| followers[count as usize].is_some_and(|follower| self.lives[follower]))
+            .collect()
+    }
+
+    /// The past that a stream with a future leaves.
+    pub fn past_of(&self, stream: &[u32]) -> Past {
+        stream[stream.len().saturating_sub(self.horizon - 1)..].to_vec()
+    }
+
+    /// Whether the stream begins an unbounded one that conforms.
+    pub fn begins_one(&self, stream: &[u32]) -> bool {
+        let kept = |end: usize| self.counts_after(&self.past_of(&stream[..end])).contains(&stream[end]);
+        self.any_stream() && (0..stream.len()).all(kept)
+    }
+
+    /// Every past that some unbounded stream has at some time.
+    pub fn reached(&self) -> Vec<Past> {
+        let mut found = vec![false; self.pasts.len()];
+        let mut left = vec![0];
+        let mut list = Vec::new();
+        while let Some(past) = left.pop() {
+            if !self.lives[past] || found[past] {
+                continue;
+            }
+            found[past] = true;
+            list.push(self.pasts[past].clone());
+            left.extend(self.next[past].iter().flatten());
+        }
+        list
+    }
+}
+
+/// The past after one more count, where that keeps every window that ends there.
+fn follow(pair: &Pair, past: &[u32], count: u32) -> Option<usize> {
+    let stream = [past, &[count]].concat();
+    if verdict(&pair.ceilings, &pair.leasts, &stream) != PASSED {
+        return None;
+    }
+    let kept = stream.len().min(pair.horizon() - 1);
+    Some(place(&stream[stream.len() - kept..], pair.ceilings[0]))
+}

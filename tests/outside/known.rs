@@ -1,0 +1,206 @@
+//! Figures with answers worked out beforehand, so that the reference is held to something outside itself too.
+
+use crate::closings;
+use crate::pairs::{self, Pair};
+use crate::random::Rng;
+use crate::reading;
+use crate::reference::Reference;
+use crate::subject::{refused, shown, Subject, LIMIT, NO_COUNT};
+use crate::tally::Tally;
+
+struct Closing {
+    ceilings: &'static [u32],
+    leasts: &'static [u32],
+    answer: u64,
+    upper: &'static [u32],
+    lower: &'static [u32],
+}
+
+const fn closes(ceilings: &'static [u32], leasts: &'static [u32], rounds: u64, upper: &'static [u32], lower: &'static [u32]) -> Closing {
+    Closing {
+        ceilings,
+        leasts,
+        answer: rounds,
+        upper,
+        lower,
+    }
+}
+
+const fn refuses(ceilings: &'static [u32], leasts: &'static [u32], number: u64) -> Closing {
+    Closing {
+        ceilings,
+        leasts,
+        answer: number << 32,
+        upper: &[],
+        lower: &[],
+    }
+}
+
+const ONES: &[u32] = &[1, 2, 3, 4, 5];
+const LOOSE: &[u32] = &[LIMIT, LIMIT, LIMIT, LIMIT, 4, LIMIT];
+
+const CLOSINGS: &[Closing] = &[
+    closes(&[7], &[2], 0, &[7], &[2]),
+    refuses(&[2], &[7], 5),
+    closes(&[0], &[0], 0, &[0], &[0]),
+    closes(&[5, 3], &[0, 0], 1, &[3, 3], &[0, 0]),
+    closes(&[1, 2], &[0, 2], 1, &[1, 2], &[1, 2]),
+    refuses(&[2, 2, 5], &[0, 0, 4], 5),
+    closes(&[2, 3, 5, 5], &[0, 0, 0, 3], 1, &[2, 3, 5, 5], &[0, 0, 1, 3]),
+    closes(&[3, 6, 3, 12, 9], &[0, 0, 0, 0, 5], 4, ONES, ONES),
+    closes(&[LIMIT], &[0], 0, &[LIMIT], &[0]),
+    closes(&[LIMIT], &[LIMIT], 0, &[LIMIT], &[LIMIT]),
+    refuses(&[LIMIT + 1], &[0], 4),
+    refuses(&[0], &[LIMIT + 1], 4),
+    refuses(&[], &[], 1),
+    refuses(&[], &[1], 1),
+    refuses(&[1], &[], 2),
+    // Two windows whose rates conflict, though they do not fit round in a window of the horizon.
+    refuses(LOOSE, &[0, 0, 0, 0, 0, 5], 5),
+    closes(LOOSE, &[0, 0, 0, 0, 0, 4], 2, &[4, 4, 4, 4, 4, 8], &[0, 0, 0, 0, 0, 4]),
+];
+
+fn check_closing(subject: &dyn Subject, known: &Closing) -> Result<(), String> {
+    let mut upper = vec![9; known.ceilings.len()];
+    let mut lower = upper.clone();
+    let answer = subject.close(known.ceilings, known.leasts, &mut upper, &mut lower);
+    let untouched = answer >> 32 != 0 && upper.iter().chain(&lower).all(|&entry| entry == 9);
+    if answer == known.answer && (untouched || (upper == known.upper && lower == known.lower)) {
+        return Ok(());
+    }
+    let input = format!("close\n  ceilings {:?}\n  leasts {:?}", known.ceilings, known.leasts);
+    let expected = format!("{}\n  {:?}\n  {:?}", shown(known.answer), known.upper, known.lower);
+    Err(format!(
+        "{input}\nexpected {expected}\ncame {}\n  {upper:?}\n  {lower:?}",
+        shown(answer)
+    ))
+}
+
+fn expect(name: &str, expected: &[u32], came: &[u32]) -> Result<(), String> {
+    if expected == came {
+        return Ok(());
+    }
+    Err(format!("{name}\nexpected {expected:?}\ncame {came:?}"))
+}
+
+/// The published pair, not closed: the start 0, 2, 1, 0, 2, 0 conforms and has no next count. The choices are those that send it.
+fn check_dead_end(subject: &dyn Subject) -> Result<(), String> {
+    let (ceilings, leasts) = ([3, 6, 3, 12, 9], [0, 0, 0, 0, 5]);
+    let mut counts = [0, 2, 1, 0, 2, 0, 0, 1];
+    subject.judge(&ceilings, &leasts, &mut counts);
+    expect(
+        "judge 0, 2, 1, 0, 2, 0, 0, 1 on the published pair",
+        &[0, 0, 0, 0, 0, 0, 2_005, 3_000],
+        &counts,
+    )?;
+    let mut choices = [0, 2, 1, 0, 0, 0, 0, 1];
+    subject.generate(&ceilings, &leasts, &mut choices);
+    expect(
+        "generate with 0, 2, 1, 0, 0, 0, 0, 1 on the published pair",
+        &[0, 2, 1, 0, 2, 0, NO_COUNT, NO_COUNT],
+        &choices,
+    )
+}
+
+/// On a closed pair, after 2, 1 the counts 0 to 2 can follow, after 2, 1, 0, 2 the counts 0 and 1: the next choice of 2 shows it.
+fn check_bounds(subject: &dyn Subject) -> Result<(), String> {
+    let (ceilings, leasts) = ([2, 3, 5, 5], [0, 0, 1, 3]);
+    for (choice, count) in [(0, 0), (1, 1), (2, 2), (3, 0), (u32::MAX, 0)] {
+        let mut choices = [2, 1, choice];
+        subject.generate(&ceilings, &leasts, &mut choices);
+        expect(&format!("generate with 2, 1, {choice}"), &[2, 1, count], &choices)?;
+    }
+    for (choice, count) in [(0, 0), (1, 1), (2, 0), (3, 1)] {
+        let mut choices = [2, 1, 0, 2, choice];
+        subject.generate(&ceilings, &leasts, &mut choices);
+        expect(&format!("generate with 2, 1, 0, 2, {choice}"), &[2, 1, 0, 2, count], &choices)?;
+    }
+    Ok(())
+}
+
+const TEXTS: &[(&[u8], &[u8])] = &[
+    (
+        b"window,least,most\r\n3,0,3\r\n5,5,9\r\n",
+        b"window,least,most\r\n1,1,1\r\n2,2,2\r\n3,3,3\r\n4,4,4\r\n5,5,5\r\n",
+    ),
+    (
+        b"window,least,most\r\n3,0,3\r\n5,5,9",
+        b"window,least,most\r\n1,1,1\r\n2,2,2\r\n3,3,3\r\n4,4,4\r\n5,5,5\r\n",
+    ),
+    (b"window,least,most\r\n1,0,65535\r\n", b"window,least,most\r\n1,0,65535\r\n"),
+    (b"window,least,most\r\n1,0,65536\r\n", b"refused 8\r\n"),
+    (b"window,least,most\r\n0,0,1\r\n", b"refused 8\r\n"),
+    (b"window,least,most\r\n257,0,1\r\n", b"refused 8\r\n"),
+    (b"window,least,most\r\n1,2,1\r\n", b"refused 5\r\n"),
+    (b"window,least,most\r\n1,0,1\r\n1,0,1\r\n1,0\r\n", b"refused 9\r\n"),
+    (b"window,least,most", b"refused 10\r\n"),
+    (b"window,least,most\r\n", b"refused 10\r\n"),
+    (b"window,least,most\r\n\r\n", b"refused 7\r\n"),
+    (b"window,least,most\r\n1,0,1\r\n\r\n", b"refused 7\r\n"),
+    (b"window,least,most\r", b"refused 6\r\n"),
+    (b"window,least,most\n", b"refused 6\r\n"),
+    (b"", b"refused 6\r\n"),
+];
+
+fn check_text(subject: &dyn Subject, text: &[u8], expected: &[u8]) -> Result<(), String> {
+    let mut output = vec![b'#'; expected.len() + 9];
+    let length = subject.report(text, &mut output);
+    if length == expected.len() && output.starts_with(expected) && output[length..].iter().all(|&byte| byte == b'#') {
+        return Ok(());
+    }
+    Err(format!(
+        "report b\"{}\"\nexpected b\"{}\"\ncame {length} b\"{}\"",
+        text.escape_ascii(),
+        expected.escape_ascii(),
+        output.escape_ascii()
+    ))
+}
+
+/// Long lists: 256 windows are a pair, 257 are none; the pair with the most rounds; the longest text that can be good, and longer ones.
+fn check_long(subject: &dyn Subject, rng: &mut Rng, tally: &mut Tally) -> Result<(), String> {
+    for (horizon, answer) in [(256, 0), (257, refused(1))] {
+        let came = subject.close(&vec![LIMIT; horizon], &vec![0; horizon], &mut vec![0; 300], &mut vec![0; 300]);
+        if came != answer {
+            return Err(format!(
+                "close {horizon} windows with no bound\nexpected {}\ncame {}",
+                shown(answer),
+                shown(came)
+            ));
+        }
+    }
+    let nine = pairs::nine_rounds();
+    let (ceilings, leasts) = (nine.ceilings.clone(), nine.leasts.clone());
+    let rounds = subject.close(&ceilings, &leasts, &mut [0; 256], &mut [0; 256]);
+    if rounds != 9 {
+        return Err(format!(
+            "close a ceiling of 200000 for 5 and a least of 10120000 for 253\nexpected 9 rounds\ncame {}",
+            shown(rounds)
+        ));
+    }
+    closings::check(subject, &closings::Case::new(rng, Pair { ceilings, leasts }, 256, 257), true, tally)?;
+    let mut long = b"window,least,most\r\n2,0,2\r\n255,255,65535\r\n".to_vec();
+    for length in [long.len(), 16_384, 16_385] {
+        long.resize(length, b'1');
+        reading::check_report(subject, &long, 5_799, tally)?;
+    }
+    for text in [long, reading::longest_good_text(), vec![b'1'; 16_385]] {
+        reading::check_reading(subject, &text, &rng.rubbish(280), &rng.rubbish(264), tally)?;
+        reading::check_report(subject, &text, 5_799, tally)?;
+    }
+    Ok(())
+}
+
+pub fn compare(subject: &dyn Subject, rng: &mut Rng, tally: &mut Tally) -> Result<(), String> {
+    for implementor in [&Reference as &dyn Subject, subject] {
+        for known in CLOSINGS {
+            check_closing(implementor, known)?;
+        }
+        for (text, expected) in TEXTS {
+            check_text(implementor, text, expected)?;
+        }
+        check_dead_end(implementor)?;
+        check_bounds(implementor)?;
+        check_long(implementor, rng, tally)?;
+    }
+    Ok(())
+}

@@ -1,0 +1,105 @@
+//! The mutants through the same comparisons as the product. One that is not caught shows that the comparisons are too weak.
+
+use std::sync::atomic::{AtomicUsize, Ordering};
+use std::sync::Mutex;
+use std::thread;
+
+use crate::comparisons::{work_of, COMPARISONS, PROMISES};
+use crate::faults::{Fault, MUTANTS};
+use crate::faulty_closing::Faulty;
+use crate::subject::Subject;
+use crate::workers::locked;
+
+impl Subject for Faulty {
+    fn close(&self, ceilings: &[u32], leasts: &[u32], upper: &mut [u32], lower: &mut [u32]) -> u64 {
+        self.close_into(ceilings, leasts, upper, lower)
+    }
+
+    fn read(&self, text: &[u8], upper: &mut [u32], lower: &mut [u32]) -> u64 {
+        self.read_into(text, upper, lower)
+    }
+
+    fn report(&self, text: &[u8], output: &mut [u8]) -> usize {
+        self.report_into(text, output)
+    }
+
+    fn judge(&self, ceilings: &[u32], leasts: &[u32], script: &mut [u32]) -> u32 {
+        self.judge_into(ceilings, leasts, script)
+    }
+
+    fn generate(&self, ceilings: &[u32], leasts: &[u32], script: &mut [u32]) -> u32 {
+        self.generate_into(ceilings, leasts, script)
+    }
+}
+
+/// What caught a mutant, and after how many cases of that comparison.
+#[derive(Clone, Default)]
+struct Caught {
+    first: Option<(&'static str, u64)>,
+    by_promises: bool,
+}
+
+/// The case in which a comparison tells a mutant apart.
+fn told_by(number: usize, fault: Fault, seed: u64) -> Option<u64> {
+    let comparison = &COMPARISONS[number];
+    let subject = Faulty { fault };
+    let work = work_of(number, comparison.sample, seed);
+    work.run_alone(&|rng, tally| (comparison.one)(&subject, rng, tally))
+        .err()
+        .map(|difference| difference.case)
+}
+
+fn catch(fault: Fault, seed: u64) -> Caught {
+    let mut caught = Caught::default();
+    for (number, comparison) in COMPARISONS.iter().enumerate() {
+        // Only the promises are asked about a mutant that was caught already.
+        if caught.first.is_some() && comparison.name != PROMISES {
+            continue;
+        }
+        if let Some(case) = told_by(number, fault, seed) {
+            caught.first = caught.first.or(Some((comparison.name, case)));
+            caught.by_promises |= comparison.name == PROMISES;
+        }
+    }
+    caught
+}
+
+/// Each mutant with what caught it, in the order of the list.
+fn run_all(seed: u64) -> Vec<Caught> {
+    let next = AtomicUsize::new(0);
+    let found = Mutex::new(vec![Caught::default(); MUTANTS.len()]);
+    let worker = || loop {
+        let place = next.fetch_add(1, Ordering::SeqCst);
+        if place >= MUTANTS.len() {
+            break;
+        }
+        let caught = catch(MUTANTS[place].0, seed);
+        locked(&found)[place] = caught;
+    };
+    thread::scope(|scope| {
+        scope.spawn(worker);
+        scope.spawn(worker);
+    });
+    found.into_inner().unwrap_or_default()
+}
+
+/// Prints a line for each mutant; how many were not caught. The same implementation without a fault must not be caught: else what
+/// catches the mutants may not be their faults.
+pub fn run(seed: u64) -> usize {
+    let mut missed = 0;
+    if let Some((name, case)) = catch(Fault::NoFault, seed).first {
+        println!("  THE ONE WITHOUT A FAULT CAUGHT by {name}, case {case}");
+        missed += 1;
+    }
+    for ((_, description), caught) in MUTANTS.iter().zip(run_all(seed)) {
+        let promises = if caught.by_promises { ", and by the promises" } else { "" };
+        match caught.first {
+            Some((name, case)) => println!("  {description:<48} caught by {name}, case {case}{promises}"),
+            None => {
+                println!("  {description:<48} NOT CAUGHT");
+                missed += 1;
+            }
+        }
+    }
+    missed
+}

@@ -1,0 +1,236 @@
+//! Pairs to try, each within the limits of a pair. Lists that are refused before any figure counts are made where they are used.
+
+use crate::random::Rng;
+use crate::rounds;
+use crate::subject::{LIMIT, LONGEST_HORIZON};
+
+#[derive(Clone, PartialEq)]
+pub struct Pair {
+    pub ceilings: Vec<u32>,
+    pub leasts: Vec<u32>,
+}
+
+impl Pair {
+    fn filled(horizon: usize, ceiling: u32, least: u32) -> Pair {
+        Pair {
+            ceilings: vec![ceiling; horizon],
+            leasts: vec![least; horizon],
+        }
+    }
+
+    /// No bound that says anything.
+    pub fn loose(horizon: usize) -> Pair {
+        Pair::filled(horizon, LIMIT, 0)
+    }
+
+    pub fn horizon(&self) -> usize {
+        self.ceilings.len()
+    }
+
+    fn set_ceiling(&mut self, window: usize, figure: u64) {
+        self.ceilings[window - 1] = figure.min(u64::from(LIMIT)) as u32;
+    }
+
+    fn set_least(&mut self, window: usize, figure: u64) {
+        self.leasts[window - 1] = figure.min(u64::from(LIMIT)) as u32;
+    }
+}
+
+/// The closure where there is one, else the pair itself.
+pub fn closed(pair: &Pair) -> Pair {
+    match rounds::close(&pair.ceilings, &pair.leasts) {
+        None => pair.clone(),
+        Some(closed) => Pair {
+            ceilings: rounds::narrowed(&closed.curves.ceilings),
+            leasts: rounds::narrowed(&closed.curves.leasts),
+        },
+    }
+}
+
+pub fn long_horizon(rng: &mut Rng) -> usize {
+    if rng.one_in(3) {
+        LONGEST_HORIZON
+    } else {
+        rng.length(65, LONGEST_HORIZON)
+    }
+}
+
+/// Dense small figures in no order: they cross often.
+fn small(rng: &mut Rng, horizon: usize) -> Pair {
+    let most = rng.pick(&[1, 2, 3, 5, 9, 20]);
+    let lowest = rng.pick(&[1, 1, 2, 4]);
+    let mut pair = Pair::filled(horizon, 0, 0);
+    for window in 0..horizon {
+        pair.ceilings[window] = rng.below(most + 1) + rng.below(window as u32 + 1);
+        pair.leasts[window] = rng.below(most + 1) / lowest;
+    }
+    pair
+}
+
+/// Figures about a common rate, a little looser on either side: there is a closure mostly, and many figures have a say in it.
+fn about_a_rate(rng: &mut Rng, horizon: usize) -> Pair {
+    let ticks = u64::from(rng.between(1, 16));
+    let events = u64::from(rng.below(40)) * rng.pick(&[1, 1, 1, 1_000, 20_000]);
+    let slack = rng.pick(&[0, 1, 1, 3, 10, 1_000]) + 1;
+    let tighter = u64::from(rng.one_in(6));
+    let mut pair = Pair::filled(horizon, 0, 0);
+    for window in 1..=horizon {
+        let share = window as u64 * events;
+        pair.set_ceiling(window, share.div_ceil(ticks) + u64::from(rng.below(slack)));
+        pair.set_least(window, (share / ticks + tighter).saturating_sub(u64::from(rng.below(slack))));
+    }
+    pair
+}
+
+/// Growing curves, as the theory has them.
+fn increasing(rng: &mut Rng, horizon: usize) -> Pair {
+    let most = rng.pick(&[2, 4, 10, 500, 60_000]);
+    let mut pair = Pair::filled(horizon, 0, 0);
+    let (mut ceiling, mut least) = (u64::from(rng.below(most)), 0);
+    for window in 1..=horizon {
+        ceiling += u64::from(rng.below(most));
+        least += u64::from(rng.below(most / 2));
+        pair.set_ceiling(window, ceiling);
+        pair.set_least(window, least);
+    }
+    pair
+}
+
+/// A pair as a text with few records gives it.
+fn from_triples(rng: &mut Rng, horizon: usize) -> Pair {
+    let most = rng.pick(&[4, 12, 300, 65_536]);
+    let mut named = vec![None; horizon];
+    named[horizon - 1] = Some(rng.below(most));
+    for _ in 0..rng.below(4) {
+        named[rng.length(0, horizon - 1)] = Some(rng.below(most));
+    }
+    let smallest = named.iter().flatten().copied().min().unwrap_or(0);
+    let mut pair = Pair::filled(horizon, 0, 0);
+    for window in 1..=horizon {
+        pair.set_ceiling(window, named[window - 1].map_or(u64::from(smallest) * window as u64, u64::from));
+        if named[window - 1].is_some() {
+            pair.set_least(window, u64::from(rng.below(smallest + 1)) * rng.pick(&[0, 1, window as u64 / 2]));
+        }
+    }
+    pair
+}
+
+/// Two windows with a word each and every other figure out of the way: the most rounds that there are. The least is what the rate of
+/// the ceiling allows, or one on either side of that.
+pub fn two_windows(rng: &mut Rng, horizon: usize) -> Pair {
+    let mut pair = Pair::loose(horizon);
+    let few = rng.length(1, horizon);
+    let many = if rng.one_in(2) {
+        horizon - rng.length(0, 3).min(horizon - 1)
+    } else {
+        rng.length(1, horizon)
+    };
+    let ceiling = rng.pick(&[1u64, 7, 4_000, 30_000]) * few as u64 + u64::from(rng.below(2));
+    pair.set_ceiling(few, ceiling);
+    pair.set_least(
+        many,
+        (ceiling * many as u64 / few as u64 + u64::from(rng.below(2))).saturating_sub(u64::from(rng.below(3))),
+    );
+    pair
+}
+
+/// The pair with the most rounds of all: nine.
+pub fn nine_rounds() -> Pair {
+    let mut pair = Pair::loose(LONGEST_HORIZON);
+    pair.set_ceiling(5, 200_000);
+    pair.set_least(253, 10_120_000);
+    pair
+}
+
+/// Nothing but the smallest and the largest figures.
+fn extremes(rng: &mut Rng, horizon: usize) -> Pair {
+    let mut pair = Pair::loose(horizon);
+    for window in 0..horizon {
+        pair.ceilings[window] = rng.pick(&[LIMIT, LIMIT, LIMIT - 1, LIMIT / 2, 1, 0]);
+        pair.leasts[window] = rng.pick(&[0, 0, 0, 1, LIMIT / 2, LIMIT - 1, LIMIT]);
+    }
+    pair
+}
+
+/// Any figures at all.
+fn anything(rng: &mut Rng, horizon: usize) -> Pair {
+    let mut pair = Pair::filled(horizon, 0, 0);
+    for window in 0..horizon {
+        pair.ceilings[window] = rng.between(0, LIMIT);
+        pair.leasts[window] = rng.between(0, LIMIT) / rng.pick(&[1, 8, 300]);
+    }
+    pair
+}
+
+/// A closed pair with one figure a little off, either way.
+fn nearly_closed(rng: &mut Rng, horizon: usize) -> Pair {
+    let base = about_a_rate(rng, horizon);
+    let mut pair = closed(&base);
+    let window = rng.length(1, horizon);
+    let step = u64::from(rng.between(1, 2));
+    let (ceiling, least) = (u64::from(pair.ceilings[window - 1]), u64::from(pair.leasts[window - 1]));
+    match rng.below(4) {
+        0 => pair.set_ceiling(window, ceiling + step),
+        1 => pair.set_ceiling(window, ceiling.saturating_sub(step)),
+        2 => pair.set_least(window, least + step),
+        _ => pair.set_least(window, least.saturating_sub(step)),
+    }
+    pair
+}
+
+/// A closed pair with many figures made looser: closing has to find them again where the others still say them.
+fn loosened(rng: &mut Rng, horizon: usize) -> Pair {
+    let base = if rng.one_in(3) {
+        increasing(rng, horizon)
+    } else {
+        about_a_rate(rng, horizon)
+    };
+    let mut pair = closed(&base);
+    let far = rng.pick(&[3, 30, 100_000]);
+    for window in 1..=horizon {
+        if rng.one_in(2) {
+            let ceiling = u64::from(pair.ceilings[window - 1]);
+            pair.set_ceiling(window, ceiling + u64::from(rng.below(far)));
+        }
+        if rng.one_in(2) {
+            let least = u64::from(pair.leasts[window - 1]);
+            pair.set_least(window, least.saturating_sub(u64::from(rng.below(far))));
+        }
+    }
+    pair
+}
+
+/// One least above its ceiling as given.
+fn crossing(rng: &mut Rng, horizon: usize) -> Pair {
+    let mut pair = about_a_rate(rng, horizon);
+    let window = rng.length(1, horizon);
+    let ceiling = u64::from(pair.ceilings[window - 1]);
+    pair.set_least(window, ceiling + u64::from(rng.between(1, 4)));
+    pair
+}
+
+/// A pair of any kind.
+pub fn any(rng: &mut Rng, horizon: usize) -> Pair {
+    match rng.below(16) {
+        0..=2 => small(rng, horizon),
+        3..=5 => about_a_rate(rng, horizon),
+        6 => increasing(rng, horizon),
+        7 => from_triples(rng, horizon),
+        8 => two_windows(rng, horizon),
+        9 => extremes(rng, horizon),
+        10 => anything(rng, horizon),
+        11..=12 => nearly_closed(rng, horizon),
+        13..=14 => loosened(rng, horizon),
+        _ => crossing(rng, horizon),
+    }
+}
+
+/// A pair on which some stream goes on for a while: for scripts.
+pub fn lasting(rng: &mut Rng, horizon: usize) -> Pair {
+    match rng.below(4) {
+        0 => about_a_rate(rng, horizon),
+        1 => increasing(rng, horizon),
+        2 => loosened(rng, horizon),
+        _ => from_triples(rng, horizon),
+    }
+}

@@ -1,0 +1,143 @@
+//! Pairs to open on, with streams of counts and lists of choices for them.
+
+use crate::pairs::{self, Pair};
+use crate::random::Rng;
+use crate::streams::sent;
+use crate::subject::{LIMIT, LONGEST_HORIZON, NO_COUNT};
+
+const LONGEST_SCRIPT: usize = 600;
+
+/// A pair to open on: any, one with long streams, or the closure of one.
+fn pair(rng: &mut Rng) -> Pair {
+    let horizon = match rng.below(100) {
+        0..=1 => pairs::long_horizon(rng),
+        2..=5 => rng.length(13, 64),
+        _ => rng.length(1, 12),
+    };
+    match rng.below(4) {
+        0 => pairs::any(rng, horizon),
+        1 => pairs::lasting(rng, horizon),
+        _ => {
+            let pair = pairs::lasting(rng, horizon);
+            pairs::closed(&pair)
+        }
+    }
+}
+
+/// One fault that an opening is refused for.
+pub fn spoil(rng: &mut Rng, pair: &mut Pair) {
+    match rng.below(5) {
+        0 => pair.ceilings.clear(),
+        1 => pair.ceilings.resize(rng.length(257, 300), 1),
+        2 => pair.leasts.push(0),
+        3 => pair.leasts.truncate(pair.leasts.len().saturating_sub(1)),
+        _ => {
+            let list = if rng.one_in(2) { &mut pair.ceilings } else { &mut pair.leasts };
+            let place = rng.length(0, list.len().saturating_sub(1));
+            if let Some(figure) = list.get_mut(place) {
+                *figure = rng.pick(&[LIMIT + 1, u32::MAX]);
+            }
+        }
+    }
+}
+
+fn choices(rng: &mut Rng, length: usize) -> Vec<u32> {
+    let end = rng.pick(&[1, 2, 3, 10, u32::MAX]);
+    (0..length)
+        .map(|_| if rng.one_in(30) { u32::MAX - rng.below(2) } else { rng.below(end) })
+        .collect()
+}
+
+/// Counts that keep the pair for as long as it can be kept, then anything.
+fn kept_counts(rng: &mut Rng, pair: &Pair, length: usize) -> Vec<u32> {
+    let list = choices(rng, length);
+    let mut counts = sent(&pair.ceilings, &pair.leasts, &list);
+    for count in counts.iter_mut().filter(|count| **count == NO_COUNT) {
+        *count = rng.below(5);
+    }
+    counts
+}
+
+/// A count a little or far away from the one that keeps the pair.
+fn off(rng: &mut Rng, count: u32) -> u32 {
+    match rng.below(6) {
+        0..=1 => count.saturating_add(rng.between(1, 3)),
+        2..=3 => count.saturating_sub(rng.between(1, 3)),
+        4 => 0,
+        _ => rng.pick(&[LIMIT, LIMIT + 1, 1 << 31, u32::MAX - 1, u32::MAX]),
+    }
+}
+
+fn counts(rng: &mut Rng, pair: &Pair, length: usize) -> Vec<u32> {
+    if rng.one_in(8) {
+        let end = rng.pick(&[2, 4, 20, u32::MAX]);
+        return (0..length).map(|_| rng.below(end)).collect();
+    }
+    let mut list = kept_counts(rng, pair, length);
+    for _ in 0..rng.below(4) {
+        if length > 0 {
+            let place = rng.length(0, length - 1);
+            list[place] = off(rng, list[place]);
+        }
+    }
+    list
+}
+
+/// Crossed figures and a stream with a sum that is above the ceiling and below the least of one window, so that the order counts.
+fn between_crossed(rng: &mut Rng) -> (Pair, Vec<u32>) {
+    let window = rng.length(1, 6);
+    let counts: Vec<u32> = (0..window + rng.length(0, 3)).map(|_| rng.below(4)).collect();
+    let total: u32 = counts[..window].iter().sum();
+    let mut pair = Pair::loose(window + rng.length(0, 2));
+    pair.ceilings[window - 1] = total.saturating_sub(1);
+    pair.leasts[window - 1] = total + 1;
+    (pair, counts)
+}
+
+/// Figures for one window only, a long one often, and counts that come round with it, so that every sum of that window is the same;
+/// then one count that is off.
+fn one_window(rng: &mut Rng) -> (Pair, Vec<u32>) {
+    let horizon = if rng.one_in(8) { LONGEST_HORIZON } else { rng.length(1, 40) };
+    let window = if rng.one_in(3) { rng.length(1, horizon) } else { horizon };
+    let circle: Vec<u32> = (0..window).map(|_| rng.below(5)).collect();
+    let total: u32 = circle.iter().sum();
+    let mut pair = Pair::loose(horizon);
+    pair.ceilings[window - 1] = total + rng.below(2);
+    pair.leasts[window - 1] = total.saturating_sub(rng.below(2));
+    let length = horizon + rng.length(0, 60);
+    let mut counts: Vec<u32> = circle.iter().copied().cycle().take(length).collect();
+    let place = rng.length(0, length - 1);
+    counts[place] = off(rng, counts[place]);
+    (pair, counts)
+}
+
+/// A pair and counts for a monitor on it.
+pub fn for_monitor(rng: &mut Rng) -> (Pair, Vec<u32>) {
+    match rng.below(20) {
+        0 => between_crossed(rng),
+        1..=2 => one_window(rng),
+        _ => {
+            let pair = pair(rng);
+            let length = rng.length(0, LONGEST_SCRIPT);
+            let script = counts(rng, &pair, length);
+            (pair, script)
+        }
+    }
+}
+
+/// A pair and choices for a generator on it.
+pub fn for_generator(rng: &mut Rng) -> (Pair, Vec<u32>) {
+    if rng.one_in(10) {
+        let (mut pair, counts) = one_window(rng);
+        if rng.one_in(2) {
+            pair.ceilings[0] = pair.ceilings[0].min(rng.below(8));
+        }
+        let end = rng.pick(&[2, 3, 7]);
+        let script = counts.iter().map(|_| rng.below(end)).collect();
+        return (pair, script);
+    }
+    let pair = pair(rng);
+    let length = rng.length(0, LONGEST_SCRIPT);
+    let script = choices(rng, length);
+    (pair, script)
+}

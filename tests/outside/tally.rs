@@ -1,0 +1,103 @@
+//! How often each answer came up. A kind of answer that can come up and never did is a fault of the comparisons.
+
+use std::collections::BTreeMap;
+
+#[derive(Default)]
+pub struct Tally {
+    seen: BTreeMap<(&'static str, u32), u64>,
+}
+
+pub const CLOSING: &str = "closing refused with";
+pub const ROUNDS: &str = "closing gave a closure, rounds";
+pub const TWO_FAULTS: &str = "closing with two faults, both numbers";
+pub const READING: &str = "reading refused with";
+pub const HORIZON: &str = "reading gave a pair, horizon";
+pub const FIRST_FAULT: &str = "reading, the first fault and another later";
+pub const ONE_RECORD: &str = "reading, two faults in one record";
+pub const SHORT: &str = "reading into an empty list refused with";
+pub const REPORT: &str = "report refused with (0: curves)";
+pub const ROOM: &str = "report into a list (0 short, 1 exact, 2 longer)";
+pub const PROGRAM: &str = "program refused with (0: curves)";
+pub const MONITOR: &str = "opening a monitor refused with (0: opened)";
+pub const GENERATOR: &str = "opening a generator refused with (0: opened)";
+pub const OPENING: &str = "opening with two faults, both numbers";
+pub const VERDICT: &str = "verdicts (0 passed, 1 many, 2 few, 3 failed)";
+pub const MANY: &str = "too many, window";
+pub const FEW: &str = "too few, window";
+pub const FAILED: &str = "turned down (0: in 10 ticks, 1: 100, 2: 300, 3: later)";
+pub const BOTH: &str = "too many and too few at once, 1 in one window";
+pub const SENT: &str = "generator (0 sent, 13 no count)";
+pub const STOPPED: &str = "no count (0: in 10 ticks, 1: 100, 2: 300, 3: later)";
+pub const LO: &str = "generator, the window that settled lo (0: none)";
+pub const FUTURE: &str = "a pair has streams (0 none, 1 some)";
+pub const START: &str = "a start (0 has no future, 1 has one)";
+pub const EQUAL: &str = "two closures (0 differ, 1 equal)";
+
+const SOME_WINDOWS: &[u32] = &[1, 2, 3, 4, 8, 12, 256];
+
+/// What must be seen in a whole run.
+const DUE: &[(&str, &[u32])] = &[
+    (CLOSING, &[1, 2, 3, 4, 5]),
+    (ROUNDS, &[0, 1, 2, 3, 4, 5, 6, 7, 8, 9]),
+    (TWO_FAULTS, &[12, 13, 14, 15, 23, 24, 25, 34, 35, 45]),
+    (READING, &[6, 7, 8, 9, 10, 11]),
+    (HORIZON, &[1, 2, 3, 255, 256]),
+    (FIRST_FAULT, &[67, 68, 69, 78, 79, 87, 89, 97, 98]),
+    (ONE_RECORD, &[78, 79, 89]),
+    (SHORT, &[6, 7, 8, 9, 10, 11]),
+    (REPORT, &[0, 5, 6, 7, 8, 9, 10]),
+    (ROOM, &[0, 1, 2]),
+    (PROGRAM, &[0, 5, 6, 7, 8, 9, 10]),
+    (MONITOR, &[0, 1, 2, 4]),
+    (GENERATOR, &[0, 1, 2, 4]),
+    (OPENING, &[12, 14, 24]),
+    (VERDICT, &[0, 1, 2, 3]),
+    (MANY, SOME_WINDOWS),
+    (FEW, SOME_WINDOWS),
+    (FAILED, &[0, 1, 2, 3]),
+    (BOTH, &[0, 1]),
+    (SENT, &[0, 13]),
+    (STOPPED, &[0, 1, 2]),
+    (LO, &[0, 1, 2, 3, 8, 256]),
+    (FUTURE, &[0, 1]),
+    (START, &[0, 1]),
+    (EQUAL, &[0, 1]),
+];
+
+impl Tally {
+    pub fn note(&mut self, kind: &'static str, number: u32) {
+        *self.seen.entry((kind, number)).or_insert(0) += 1;
+    }
+
+    pub fn merge(&mut self, other: Tally) {
+        for (key, times) in other.seen {
+            *self.seen.entry(key).or_insert(0) += times;
+        }
+    }
+
+    /// How often each number that is due came up, and how often others did.
+    pub fn print(&self) {
+        println!("answers seen, each number with how often:");
+        for (kind, due) in DUE {
+            let times = |number: &u32| self.seen.get(&(*kind, *number)).copied().unwrap_or(0);
+            let shown: Vec<String> = due.iter().map(|number| format!("{number}: {}", times(number))).collect();
+            let all: u64 = self.seen.iter().filter(|(key, _)| key.0 == *kind).map(|(_, times)| times).sum();
+            let others = all - due.iter().map(times).sum::<u64>();
+            let rest = if others > 0 { format!("  others: {others}") } else { String::new() };
+            println!("  {kind:<54} {}{rest}", shown.join("  "));
+        }
+    }
+
+    /// What should have come up and did not.
+    pub fn missing(&self) -> Vec<String> {
+        let mut list = Vec::new();
+        for (kind, numbers) in DUE {
+            for number in *numbers {
+                if !self.seen.contains_key(&(*kind, *number)) {
+                    list.push(format!("{kind} {number}"));
+                }
+            }
+        }
+        list
+    }
+}

@@ -1,0 +1,169 @@
+//! Constraint texts by cutting: the text into lines at CR LF, a line into fields at commas.
+
+use crate::rounds;
+use crate::subject::{refusal_of, refused, HEADER, LONGEST_HORIZON, LONGEST_TEXT, TEXT_LIMIT};
+
+struct Record {
+    window: u32,
+    least: u32,
+    most: u32,
+}
+
+/// The parts between the places where CR LF stands; one part more than there are such places.
+fn lines(text: &[u8]) -> Vec<&[u8]> {
+    let mut parts = Vec::new();
+    let mut start = 0;
+    let mut place = 0;
+    while place < text.len() {
+        if text[place..].starts_with(b"\r\n") {
+            parts.push(&text[start..place]);
+            place += 2;
+            start = place;
+        } else {
+            place += 1;
+        }
+    }
+    parts.push(&text[start..]);
+    parts
+}
+
+/// A field is a number when writing that number gives the field again, which leaves no room for a sign, a blank or a leading zero.
+fn number(field: &[u8]) -> Option<u32> {
+    let written = std::str::from_utf8(field).ok()?;
+    let value: u32 = written.parse().ok()?;
+    if written.len() <= 5 && value.to_string() == written {
+        Some(value)
+    } else {
+        None
+    }
+}
+
+/// Which of the questions 7, 8 and 9 a line has the answer no to, each asked by itself. `named` has the windows named before.
+fn faults(line: &[u8], named: &[u32]) -> Vec<u32> {
+    let fields: Vec<Option<u32>> = line.split(|&byte| byte == b',').map(number).collect();
+    let ill_formed = fields.len() != 3 || fields.contains(&None);
+    let ranges = [1..=LONGEST_HORIZON as u32, 0..=TEXT_LIMIT, 0..=TEXT_LIMIT];
+    let out_of_range = fields
+        .iter()
+        .zip(ranges)
+        .any(|(field, range)| field.is_some_and(|value| !range.contains(&value)));
+    let repeated = fields[0].is_some_and(|window| named.contains(&window));
+    let asked = [(7, ill_formed), (8, out_of_range), (9, repeated)];
+    asked.iter().filter(|question| question.1).map(|question| question.0).collect()
+}
+
+/// The record of a line without faults.
+fn record(line: &[u8]) -> Record {
+    let value = |field: usize| line.split(|&byte| byte == b',').nth(field).and_then(number).unwrap_or(0);
+    Record {
+        window: value(0),
+        least: value(1),
+        most: value(2),
+    }
+}
+
+/// The lines after the header. The empty part after a last CR LF is no record; the one after a second CR LF is.
+fn record_lines(text: &[u8]) -> Vec<&[u8]> {
+    let mut parts = lines(text);
+    if parts.len() > 1 && parts[parts.len() - 1].is_empty() {
+        parts.pop();
+    }
+    parts.remove(0);
+    parts
+}
+
+/// The records of a text, or the number of its refusal.
+fn records(text: &[u8]) -> Result<Vec<Record>, u32> {
+    if text.len() > LONGEST_TEXT || lines(text)[0] != HEADER {
+        return Err(6);
+    }
+    let mut list: Vec<Record> = Vec::new();
+    let mut named = Vec::new();
+    for line in record_lines(text) {
+        if let Some(&number) = faults(line, &named).first() {
+            return Err(number);
+        }
+        list.push(record(line));
+        named.push(record(line).window);
+    }
+    if list.is_empty() {
+        return Err(10);
+    }
+    Ok(list)
+}
+
+/// All faults of all lines after the header, whatever else is wrong with the text: those of one line first, then those of the next.
+pub fn all_faults(text: &[u8]) -> Vec<Vec<u32>> {
+    let mut named = Vec::new();
+    let mut list = Vec::new();
+    for line in record_lines(text) {
+        let found = faults(line, &named);
+        if found.is_empty() {
+            named.push(record(line).window);
+        }
+        list.push(found);
+    }
+    list
+}
+
+/// The pair of a text: ceilings and leasts.
+pub fn pair(text: &[u8]) -> Result<(Vec<u32>, Vec<u32>), u32> {
+    let list = records(text)?;
+    let horizon = list.iter().map(|record| record.window).max().unwrap_or(0);
+    let smallest = list.iter().map(|record| record.most).min().unwrap_or(0);
+    let named = |window: u32| list.iter().find(|record| record.window == window);
+    let ceilings = (1..=horizon)
+        .map(|window| named(window).map_or(window * smallest, |record| record.most))
+        .collect();
+    let leasts = (1..=horizon).map(|window| named(window).map_or(0, |record| record.least)).collect();
+    Ok((ceilings, leasts))
+}
+
+/// Reading as a whole: the pair into the first entries of the result lists.
+pub fn read_into(text: &[u8], upper: &mut [u32], lower: &mut [u32]) -> u64 {
+    match pair(text) {
+        Err(number) => refused(number),
+        Ok((ceilings, leasts)) => {
+            let horizon = ceilings.len();
+            if upper.len() < horizon || lower.len() < horizon {
+                return refused(11);
+            }
+            upper[..horizon].copy_from_slice(&ceilings);
+            lower[..horizon].copy_from_slice(&leasts);
+            horizon as u64
+        }
+    }
+}
+
+/// The closure of a text's pair, or the number of the refusal.
+fn closure(text: &[u8]) -> Result<(Vec<u32>, Vec<u32>), u32> {
+    let (ceilings, leasts) = pair(text)?;
+    let mut upper = vec![0; ceilings.len()];
+    let mut lower = vec![0; ceilings.len()];
+    match refusal_of(rounds::close_into(&ceilings, &leasts, &mut upper, &mut lower)) {
+        0 => Ok((upper, lower)),
+        number => Err(number),
+    }
+}
+
+/// All that is to be written for a text, and the number of the refusal in it or 0.
+pub fn report(text: &[u8]) -> (Vec<u8>, u32) {
+    match closure(text) {
+        Err(number) => (format!("refused {number}\r\n").into_bytes(), number),
+        Ok((upper, lower)) => {
+            let mut written = format!("{}\r\n", String::from_utf8_lossy(HEADER));
+            for (place, (most, least)) in upper.iter().zip(&lower).enumerate() {
+                written += &format!("{},{},{}\r\n", place + 1, least, most);
+            }
+            (written.into_bytes(), 0)
+        }
+    }
+}
+
+/// A report into a list that may be too short for it.
+pub fn report_into(text: &[u8], output: &mut [u8]) -> usize {
+    let (written, _) = report(text);
+    let room = written.len().min(output.len());
+    output[..room].copy_from_slice(&written[..room]);
+    written.len()
+}
