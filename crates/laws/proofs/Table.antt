@@ -10,7 +10,7 @@ use native.Mathlib.Decide.{ℕ-discrete}
 use native.Mathlib.Omega.{arith}
 use lib.ListN.{length, getD, set, drop, replicate, length-append, length-set, drop-of-length-le, replicate-append-replicate}
 use lib.ListN.{List·getD-append}
-use lib.Seq.{getD-at, set-at, getD-set-same, getD-set-other, drop-cons, ext-getD}
+use lib.Seq.{getD-at, set-at, getD-set-same, getD-set-other, getD-append-add, getD-drop, drop-cons, ext-getD}
 use Rattle.laws.specs.Ranges.{table}
 use Rattle.laws.specs.Tests.{Each}
 use Rattle.laws.proofs.Tests.{each-append, each-parts}
@@ -124,3 +124,13 @@ module _ {f : ℕ → ℕ} {out₀ out : List ℕ} {i : ℕ} (t : Filled f out�
   -- The list is stored up to n, and the rest of it is as it was.
   pub filled-front : (n : ℕ) → i ≡ n → out ≡ table f n ++ drop n out₀
   filled-front n e = t .parts ∙ ap (λ k. table f k ++ drop k out₀) e
+
+  -- What is not stored yet is as it was.
+  pub later : (j : ℕ) → i ≤ j → getD out j 0 ≡ getD out₀ j 0
+  later j l =
+      let e : i + (j - i) ≡ j = omega arith in
+      subst (λ (k : ℕ). getD out k 0 ≡ getD out₀ k 0) e
+      (ap (λ l. getD l (i + (j - i)) 0) (t .parts)
+      ∙ ap (λ k. getD (table f i ++ drop i out₀) (k + (j - i)) 0) (sym (length-table f i))
+      ∙ getD-append-add (table f i) (drop i out₀) (j - i) 0
+      ∙ getD-drop i out₀ (j - i) 0)

@@ -1,19 +1,56 @@
--- Tests: what an answer that is known tells, and a search through a list. Assumes nothing.
-use Prim.Native.Nat.{ℕ}
+-- Tests: what an answer tells, a loop of tests, and every entry of a list. Assumes nothing.
+use Prim.Native.Nat.{ℕ, _+_, _≤_, _<_}
 use mathlib.Core.Path.{_≡_, refl, ap, subst}
-use mathlib.Core.Bool.{Bool, true, false}
+use mathlib.Core.Bool.{Bool, true, false, not, _&&_}
 use mathlib.Core.List.{List, [], _∷_, _++_}
-use mathlib.Core.Logic.{Dec·and}
+use mathlib.Core.Logic.{_↔_, Dec·and}
 use native.Mathlib.Decide.{ℕ-discrete}
 use native.Mathlib.Omega.{arith}
+use borrow.Author.Count.{below-more}
+use borrow.Author.Tests.{leb-true, leb-false, eqb-true, eqb-false, not-true, not-false}
+use lib.Dec.{leb, eqb}
 use lib.ListN.{length, getD, drop}
-use Rattle.laws.specs.Tests.{Either, Each}
+use Rattle.laws.specs.Tests.{Either, Tells, Each}
 
 pub either-true : (P Q : Type 0) (b : Bool) → b ≡ true → Either b P Q → P
 either-true P Q b e t = subst (λ (x : Bool). Either x P Q) e t
 
 pub either-false : (P Q : Type 0) (b : Bool) → b ≡ false → Either b P Q → Q
 either-false P Q b e t = subst (λ (x : Bool). Either x P Q) e t
+
+-- The same where the test's answer is asked for by its contrary.
+pub told-no : (P : Type 0) (b : Bool) → not b ≡ true → Tells b P → ¬ P
+told-no P b e t = either-false P (¬ P) b (not-true b e) t
+
+pub told-yes : (P : Type 0) (b : Bool) → not b ≡ false → Tells b P → P
+told-yes P b e t = either-true P (¬ P) b (not-false b e) t
+
+-- What is told of one fact is told of another that holds exactly when it does.
+pub tells-same : {P Q : Type 0} (b : Bool) → P ↔ Q → Tells b P → Tells b Q
+tells-same true e t = e .0 t
+tells-same false e t = λ q. t (e .1 q)
+
+-- What a comparison tells.
+pub leb-told : (a b : ℕ) → Tells (leb a b) (a ≤ b)
+leb-told a b = go (leb a b) refl
+  where
+    go : (t : Bool) → leb a b ≡ t → Tells t (a ≤ b)
+    go true e = leb-true a b e
+    go false e = λ h. omega (arith, leb-false a b e, h)
+
+pub eqb-told : (a b : ℕ) → Tells (eqb a b) (a ≡ b)
+eqb-told a b = go (eqb a b) refl
+  where
+    go : (t : Bool) → eqb a b ≡ t → Tells t (a ≡ b)
+    go true e = eqb-true a b e
+    go false e = eqb-false a b e
+
+-- A turn of a loop that holds whether all before i are as wanted, and looks at i.
+pub all-turn : (P : ℕ → Type 0) (i : ℕ) (b t : Bool) → Tells b ((k : ℕ) → k < i → P k) → Tells t (P i)
+    → Tells (b && t) ((k : ℕ) → k < i + 1 → P k)
+all-turn P i true true h p = below-more P i h p
+all-turn P i true false h p = λ q. p (q i (omega arith))
+all-turn P i false t h p = λ q. h (λ k l. q k (omega arith))
 
 -- Whether all entries are as wanted can be told, where it can be told of each.
 unfoldable pub each? {ℓ} : {A : Type ℓ} (P : A → Type 0) → ((x : A) → Dec (P x)) → (xs : List A) → Dec (Each P xs)

@@ -3,8 +3,7 @@
 use mathlib.Core.Path.{_≡_, sym, _∙_}
 use native.Mathlib.Omega.{arith}
 use borrow.Author.Needs.{needs}
-use borrow.Author.Tests.{not-true, not-false}
-use Rattle.laws.proofs.Tests.{either-true, either-false}
+use Rattle.laws.proofs.Tests.{told-yes, told-no}
 use Rattle.csv.specs.Text.{Bytes, header}
 use Rattle.constraints.specs.Reading.{later, question6}
 use Rattle.constraints.specs.Steps.{Judged}
@@ -21,7 +20,7 @@ returns-2 : tie.Need-returns-2
 returns-2 c =
     let line = c .before .before .find-record in
     let told = c .before .is-header .result in
-    let other : ¬ (line .result .now ≡ header) = either-false _ _ told (not-true told (c .if2 .taken)) (c .before .is-header .ensures) in
+    let other : ¬ (line .result .now ≡ header) = told-no _ told (c .if2 .taken) (c .before .is-header .ensures) in
     no-6 _ _ (λ y. other (line .ensures ∙ y .1))
 
 -- Where the first line is the header.
@@ -32,7 +31,7 @@ asked : (e : tie.Else2) → question6 (text e) .asked
 asked e =
     let line = e .before .before .find-record in
     let told = e .before .is-header .result in
-    let same : line .result .now ≡ header = either-true _ _ told (not-false told (e .if2 .left)) (e .before .is-header .ensures) in
+    let same : line .result .now ≡ header = told-yes _ told (e .if2 .left) (e .before .is-header .ensures) in
     (omega arith, sym (line .ensures) ∙ same)
 
 -- What the records after it were found to be.

@@ -2,8 +2,7 @@
 -- Assumes nothing.
 use mathlib.Core.Path.{sym, _∙_}
 use borrow.Author.Needs.{needs}
-use borrow.Author.Tests.{not-true, not-false}
-use Rattle.laws.proofs.Tests.{either-true, either-false}
+use Rattle.laws.proofs.Tests.{told-yes, told-no}
 use Rattle.history.specs.States.{viewOf, Legal}
 use Rattle.monitor.specs.Monitoring.{monitorView}
 use Rattle.monitor.proofs.Said.{judging-bad, judging-failed, judging-unfailed}
@@ -13,11 +12,11 @@ use Rattle.monitor.proofs.find_verdict.Tie as tie
 returns : tie.Need-returns
 returns c =
     let told = c .before .is-legal .result in
-    sym (judging-bad _ _ (either-false _ _ told (not-true told (c .if1 .taken)) (c .before .is-legal .ensures)))
+    sym (judging-bad _ _ (told-no _ told (c .if1 .taken) (c .before .is-legal .ensures)))
 
 -- Where question 12 is answered yes.
 legal : (e : tie.Else1) → Legal (viewOf (e .before .before .args .history))
-legal e = let told = e .before .is-legal .result in either-true _ _ told (not-false told (e .if1 .left)) (e .before .is-legal .ensures)
+legal e = let told = e .before .is-legal .result in told-yes _ told (e .if1 .left) (e .before .is-legal .ensures)
 
 returns-2 : tie.Need-returns-2
 returns-2 c = sym (judging-failed _ _ (legal (c .before)) (c .if2 .taken))

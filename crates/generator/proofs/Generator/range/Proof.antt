@@ -2,8 +2,7 @@
 -- Assumes nothing.
 use mathlib.Core.Path.{sym}
 use borrow.Author.Needs.{needs}
-use borrow.Author.Tests.{not-true, not-false}
-use Rattle.laws.proofs.Tests.{either-true, either-false}
+use Rattle.laws.proofs.Tests.{told-yes, told-no}
 use Rattle.history.specs.States.{viewOf, Legal}
 use Rattle.generator.proofs.Said.{looking-bad}
 use Rattle.generator.proofs.Ranging.{limits-small, shown-looks}
@@ -13,11 +12,11 @@ use Rattle.generator.proofs.Generator.range.Tie as tie
 returns : tie.Need-returns
 returns c =
     let told = c .before .is-legal .result in
-    sym (looking-bad _ (either-false _ _ told (not-true told (c .if1 .taken)) (c .before .is-legal .ensures)))
+    sym (looking-bad _ (told-no _ told (c .if1 .taken) (c .before .is-legal .ensures)))
 
 -- Where question 12 is answered yes, the state has its form.
 legal : (e : tie.Else1) → Legal (viewOf (e .before .before .args .self .history))
-legal e = let told = e .before .is-legal .result in either-true _ _ told (not-false told (e .if1 .left)) (e .before .is-legal .ensures)
+legal e = let told = e .before .is-legal .result in told-yes _ told (e .if1 .left) (e .before .is-legal .ensures)
 
 find-limits-requires : tie.Need-find-limits-requires
 find-limits-requires c κs = legal c
