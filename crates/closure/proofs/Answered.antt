@@ -1,9 +1,8 @@
 -- What `close` has to show at each of its ends, over plain lists. Assumes nothing.
-use Prim.Native.Nat.{ℕ, suc}
+use Prim.Native.Nat.{ℕ}
 use mathlib.Core.Path.{_≡_, refl, sym, ap, _∙_}
 use mathlib.Core.List.{List, _++_}
 use mathlib.Core.Logic.{inl, inr}
-use native.Mathlib.Omega.{arith}
 use lib.ListN.{length, take, drop, take-append-drop}
 use Rattle.laws.specs.Ranges.{table}
 use Rattle.curves.specs.Pairs.{Pair, horizon, figure, pairOf}
@@ -11,26 +10,13 @@ use Rattle.curves.specs.Rounds.{whole, Arrives}
 use Rattle.curves.proofs.Agreement.{cut-off-arrives, cut-off-crosses}
 use Rattle.curves.proofs.Arrival.{never-both}
 use Rattle.closure.specs.declared.Closing.{Closing}
-use Rattle.closure.specs.declared.rounds.Ending.{Ending}
-use Rattle.closure.specs.declared.rounds.Ending.the-variants.{Arrived, Crossed}
+use Rattle.closure.specs.declared.Closing.the-variants.{Closed}
 use Rattle.closure.specs.Closing.{question1, question2, question3, question4, refused, closed, closing}
 use Rattle.closure.specs.Answers.{answer}
 use Rattle.closure.specs.Theorems.{Passes}
-use Rattle.closure.specs.Steps.{closingFor, Bounded, Exceeds, EndedWith}
+use Rattle.closure.specs.Steps.{EndedWith}
 use Rattle.closure.proofs.Said.{refused-is, closed-is, fifth}
-use Rattle.closure.proofs.Laws.{figure-bounded, table-figures}
-
--- Question 4 of the two lists' tests.
-pub within : (us ls : List ℕ) → Bounded us → Bounded ls → question4 (pairOf us ls) .asked
-within us ls b b′ d u v = (figure-bounded us b d, figure-bounded ls b′ d)
-
-pub upper-exceeds : (us ls : List ℕ) → Exceeds us → ¬ question4 (pairOf us ls) .asked
-unfolding figure
-upper-exceeds us ls x q = omega (arith, x .2, q (suc (x .0)) (omega arith) (x .1) .0)
-
-pub lower-exceeds : (us ls : List ℕ) → length ls ≡ length us → Exceeds ls → ¬ question4 (pairOf us ls) .asked
-unfolding figure
-lower-exceeds us ls e x q = omega (arith, x .2, q (suc (x .0)) (omega arith) (omega (arith, x .1)) .1)
+use Rattle.closure.proofs.Laws.{table-figures}
 
 module _ (p found : Pair) where
   pub no-1 : ¬ question1 p .asked → refused 1 found ≡ closing p found
@@ -58,25 +44,22 @@ module _ (p found : Pair) where
           lower = (ap (table (figure 0 ys)) (lx ∙ sym ly) ∙ table-figures ys) i ++ drop (lx i) (found .lower);
         }
 
-    ending-is : (e : Ending) → EndedWith p e (pairOf (take (horizon p) (found .upper)) (take (horizon p) (found .lower))) (pairOf xs ys)
-        → answer (closingFor e) (parts xs ys) ≡ closing p found
-    ending-is (Arrived n) a =
+    pub ended-is : (r : Closing)
+        → EndedWith p r (pairOf (take (horizon p) (found .upper)) (take (horizon p) (found .lower))) (pairOf xs ys)
+        → answer r (parts xs ys) ≡ closing p found
+    ended-is r (n, inl (k, a)) =
         let q : Pair = pairOf xs ys in
-        sym (closed-is p found n q ok (cut-off-arrives p n q .1 a) ∙ ap (answer (closingFor (Arrived n))) whole-lists)
-    ending-is Crossed x =
-        ap (refused 5) as-found ∙ sym (refused-is p found 5 (fifth p found ok none))
+        ap (λ x. answer x (parts xs ys)) k
+        ∙ sym (closed-is p found n q ok (cut-off-arrives p n q .1 a) ∙ ap (answer (Closed n)) whole-lists)
+    ended-is r (n, inr (k, x, e)) =
+        ap (λ x. answer x (parts xs ys)) k ∙ ap (refused 5) as-found ∙ sym (refused-is p found 5 (fifth p found ok none))
       where
         none : ¬ ((n : ℕ) × (q : Pair) × Arrives whole p n q)
-        none a = never-both p (a .1) (a .0) (x .0 .0) (a .2) (cut-off-crosses p (x .0 .0) .1 (x .0 .1))
+        none a = never-both p (a .1) (a .0) n (a .2) (cut-off-crosses p n .1 x)
 
         as-found : parts xs ys ≡ found
         as-found =
             λ i. record {
-              upper = (ap (λ l. l .upper ++ drop (horizon p) (found .upper)) (x .1) ∙ take-append-drop (horizon p) (found .upper)) i;
-              lower = (ap (λ l. l .lower ++ drop (horizon p) (found .lower)) (x .1) ∙ take-append-drop (horizon p) (found .lower)) i;
+              upper = (ap (λ l. l .upper ++ drop (horizon p) (found .upper)) e ∙ take-append-drop (horizon p) (found .upper)) i;
+              lower = (ap (λ l. l .lower ++ drop (horizon p) (found .lower)) e ∙ take-append-drop (horizon p) (found .lower)) i;
             }
-
-    pub ended-is : (e : Ending) (r : Closing) → r ≡ closingFor e
-        → EndedWith p e (pairOf (take (horizon p) (found .upper)) (take (horizon p) (found .lower))) (pairOf xs ys)
-        → answer r (parts xs ys) ≡ closing p found
-    ended-is e r k w = ap (λ x. answer x (parts xs ys)) k ∙ ending-is e w

@@ -3,20 +3,20 @@
 use Prim.Native.Nat.{ℕ, zero, suc, _+_, _-_, _*_, _≤_, _<_}
 use mathlib.Core.Path.{_≡_, sym, ap, _∙_, subst}
 use mathlib.Core.Bool.{Bool, true, false}
-use native.Mathlib.Nat.{suc-mul}
+use native.Mathlib.Nat.{le-refl, le-step, suc-mul}
 use native.Mathlib.Numerals.{add-one}
 use native.Mathlib.Omega.{arith}
 use borrow.Author.Count.{below-none, below-more}
 use lib.ListN.{length}
 use Rattle.laws.specs.Ranges.{fold}
-use Rattle.curves.specs.Pairs.{Pair, Same, horizon, figure, ceiling, least}
+use Rattle.curves.specs.Pairs.{Pair, Same, horizon, ceiling, least}
 use Rattle.curves.specs.Rounds.{cutOff, round, Crossed, Settled, after, Runs, Arrives, Crosses}
 use Rattle.curves.proofs.Figures.{given-self, round-horizon, round-full, full-same, same-refl}
 use Rattle.curves.proofs.Weight.{below, upper-falls, weight, weight-falls}
-use Rattle.closure.specs.Closing.{maxHorizon, figureLimit}
-use Rattle.closure.specs.Steps.{Bounded, Advanced}
+use Rattle.bounds.specs.Bounds.{figureLimit, Bounded}
+use Rattle.closure.specs.Closing.{maxHorizon}
+use Rattle.closure.specs.Steps.{Advanced}
 use Rattle.laws.proofs.Tests.{either-true, either-false}
-use Rattle.closure.proofs.Laws.{bounded-within, figure-bounded}
 
 -- A pair with as many leasts as ceilings.
 abbrev pub Even : Pair → Type 0
@@ -27,24 +27,24 @@ as-same {c} {e} h = rw h (same-refl 0 e)
 
 -- No least is above its ceiling, so the leasts are bounded as the ceilings are.
 pub lower-bounded : (c : Pair) → Even c → ¬ Crossed cutOff c → Bounded (c .upper) → Bounded (c .lower)
-unfolding figure
-lower-bounded c e n b = bounded-within (c .lower) (λ i l. omega (arith, below c n (suc i) (omega arith) (omega arith), b i))
+lower-bounded c e n b d u v = omega (arith, below c n d u (omega arith), b d u (omega arith))
 
 round-bounded : (c : Pair) → Bounded (c .upper) → Bounded (round cutOff c .upper)
-unfolding figure
-round-bounded c b =
-    bounded-within (round cutOff c .upper)
-    (λ i l. omega (arith, upper-falls c (suc i) (omega arith) (omega (arith, round-horizon cutOff c)), b i))
+round-bounded c b d u v =
+    let within : d ≤ horizon c = omega (arith, round-horizon cutOff c) in omega (arith, upper-falls c d u within, b d u within)
 
-sum-limit : (f : ℕ → ℕ) (k n : ℕ) → ((d : ℕ) → f d ≤ k) → fold _+_ 0 f n ≤ n * k
+sum-limit : (f : ℕ → ℕ) (k n : ℕ) → ((d : ℕ) → 1 ≤ d → d ≤ n → f d ≤ k) → fold _+_ 0 f n ≤ n * k
 unfolding fold
 sum-limit f k zero h = omega arith
-sum-limit f k (suc n) h = omega (arith, suc-mul n k, sum-limit f k n h, h (suc n))
+sum-limit f k (suc n) h =
+    omega (arith, suc-mul n k, sum-limit f k n (λ d u v. h d u (le-step v)), h (suc n) (omega arith) (le-refl (suc n)))
 
 pub weight-limit : (c : Pair) → horizon c ≤ maxHorizon → Bounded (c .upper) → weight c ≤ maxHorizon * (figureLimit + 1)
 weight-limit c h b =
-    let each : (d : ℕ) → ceiling c d + 1 - least c d ≤ figureLimit + 1 = λ d. omega (arith, figure-bounded (c .upper) b d) in
-    omega (arith, sum-limit (λ d. ceiling c d + 1 - least c d) (figureLimit + 1) (horizon c) each)
+    omega (
+      arith,
+      sum-limit (λ d. ceiling c d + 1 - least c d) (figureLimit + 1) (horizon c) (λ d u v. omega (arith, b d u v)),
+    )
 
 -- The rounds of p have come to c, after n that changed a figure.
 pub record Held (p : Pair) (n : ℕ) (c : Pair) : Type 0 where

@@ -11,13 +11,11 @@ use Rattle.curves.specs.Pairs.{Pair, horizon, ceiling, least}
 use Rattle.curves.specs.Questions.{Question, answerTo}
 use Rattle.curves.specs.Theorems.{Closes}
 use Rattle.curves.proofs.Arrival.{closes?}
+pub use Rattle.bounds.specs.Bounds.{figureLimit}
 
--- The longest horizon, and the largest figure: 256 times 65,535.
+-- The longest horizon.
 abbrev pub maxHorizon : ℕ
 maxHorizon = 256
-
-abbrev pub figureLimit : ℕ
-figureLimit = 16_776_960
 
 -- 1. The ceiling list has 1 to 256 entries.
 abbrev pub question1 : Pair → Question

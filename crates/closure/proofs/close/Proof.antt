@@ -8,9 +8,11 @@ use borrow.Author.Needs.{needs}
 use lib.ListN.{length, take}
 use lib.Seq.{length-take-le, length-front}
 use Rattle.curves.specs.Pairs.{Pair, horizon, pairOf}
+use Rattle.bounds.specs.Bounds.{Bounded}
 use Rattle.closure.specs.Theorems.{Passes}
-use Rattle.closure.proofs.Answered.{within, upper-exceeds, lower-exceeds, no-1, no-2, no-3, no-4, ended-is}
-use Rattle.laws.proofs.Tests.{either-true, either-false}
+use Rattle.closure.proofs.Said.{within-4}
+use Rattle.closure.proofs.Answered.{no-1, no-2, no-3, no-4, ended-is}
+use Rattle.laws.proofs.Tests.{told-yes, told-no}
 use Rattle.closure.proofs.close.Statement.{statement}
 use Rattle.closure.proofs.close.Tie as tie
 
@@ -31,13 +33,15 @@ returns-5 c = no-3 _ _ (omega arith) (omega arith) (λ y. omega (arith, y, c .if
 
 returns-6 : tie.Need-returns-6
 returns-6 c =
-    no-4 _ _ (omega arith) (omega arith) (omega arith)
-    (upper-exceeds _ _ (either-true _ _ _ (c .if6 .taken) (c .before .exceeds .ensures)))
+    let told = c .before .within-limit in
+    let above = told-no _ (told .result) (c .if6 .taken) (told .ensures) in
+    no-4 _ _ (omega arith) (omega arith) (omega arith) (λ y. above (within-4 _ (omega arith) .1 y .0))
 
 returns-7 : tie.Need-returns-7
 returns-7 c =
-    no-4 _ _ (omega arith) (omega arith) (omega arith)
-    (lower-exceeds _ _ (omega arith) (either-true _ _ _ (c .if7 .taken) (c .before .exceeds2 .ensures)))
+    let told = c .before .within-limit2 in
+    let above = told-no _ (told .result) (c .if7 .taken) (told .ensures) in
+    no-4 _ _ (omega arith) (omega arith) (omega arith) (λ y. above (within-4 _ (omega arith) .1 y .1))
 
 -- Where questions 1 to 4 are answered yes: the function's start, what was asked, and how long the parts of the result lists are.
 abbrev start : tie.Else7 → tie.Start
@@ -49,11 +53,17 @@ given s = pairOf (s .args .ceilings .now) (s .args .leasts .now)
 abbrev found : tie.Start → Pair
 found s = pairOf (s .args .upper .now) (s .args .lower .now)
 
+bounded : (e : tie.Else7) → Bounded (given (start e) .upper) × Bounded (given (start e) .lower)
+bounded e =
+    let uppers = e .before .before .before .within-limit in
+    let lowers = e .before .within-limit2 in (
+      told-yes _ (uppers .result) (e .before .before .if6 .left) (uppers .ensures),
+      told-yes _ (lowers .result) (e .if7 .left) (lowers .ensures),
+    )
+
 passes : (e : tie.Else7) → Passes (given (start e)) (found (start e))
 passes e =
-    let uppers = either-false _ _ _ (e .before .before .if6 .left) (e .before .before .before .exceeds .ensures) in
-    let lowers = either-false _ _ _ (e .if7 .left) (e .before .exceeds2 .ensures) in
-    ((omega arith, omega arith), (omega arith, ((omega arith, omega arith), (within _ _ uppers lowers, tt))))
+    ((omega arith, omega arith), (omega arith, ((omega arith, omega arith), (within-4 (given (start e)) (omega arith) .0 (bounded e), tt))))
 
 part : (e : tie.Else7) (xs : List ℕ) → horizon (given (start e)) ≤ length xs
     → horizon (given (start e)) ≡ length (take (horizon (given (start e))) xs)
@@ -68,33 +78,32 @@ slice-aggregate-close-into-2 c = part (c .before .before) _ (passes (c .before .
 close-into-requires : tie.Need-close-into-requires
 close-into-requires c κs =
     let e = c .before .before in
-    let ok = passes e in
-    let uppers = either-false _ _ _ (e .before .before .if6 .left) (e .before .before .before .exceeds .ensures) in (
-      (ok .0 .1, uppers),
-      record { lowers = ok .1 .0; new-uppers = sym (part e _ (ok .1 .1 .0 .0)); new-lowers = sym (part e _ (ok .1 .1 .0 .1)) },
+    let ok = passes e in (
+      (ok .0 .1, bounded e .0),
+      (ok .1 .0, (sym (part e _ (ok .1 .1 .0 .0)), (sym (part e _ (ok .1 .1 .0 .1)), tt))),
     )
 
 same-length : tie.Need-same-length
 same-length c =
-    let k = c .before .before .before .before .before in
+    let k = c .before .before .before .before in
     let s = start (k .before .before .before) in
     length-front (s .args .upper .now) (k .close-into .last .1 .1 .0) (horizon (given s)) (k .close-into .kept .1 .1 .0)
 
 same-length-2 : tie.Need-same-length-2
 same-length-2 c =
-    let k = c .before .before .before .before .before in
+    let k = c .before .before .before .before in
     let s = start (k .before .before .before) in
     length-front (s .args .lower .now) (k .close-into .last .1 .1 .1 .0) (horizon (given s)) (k .close-into .kept .1 .1 .1 .0)
 
 returns-8 : tie.Need-returns-8
 returns-8 c =
-    let k = c .before .before .before .before .before in
+    let k = c .before .before .before .before in
     let e = k .before .before .before in
     let ok = passes e in
     let uppers = k .close-into .kept .1 .1 .0 ∙ sym (part e _ (ok .1 .1 .0 .0)) in
     let lowers = k .close-into .kept .1 .1 .1 .0 ∙ sym (part e _ (ok .1 .1 .0 .1)) in
     ended-is (given (start e)) (found (start e)) ok (k .close-into .last .1 .1 .0) (k .close-into .last .1 .1 .1 .0) uppers lowers
-    (k .close-into .result) (c .closing-for .result) (c .closing-for .ensures) (k .close-into .ensures)
+    (k .close-into .result) (k .close-into .ensures)
 
 pub close-spec : {M : Type 1} → statement M
 close-spec =
@@ -114,7 +123,6 @@ close-spec =
     (λ c. search needs)
     slice-aggregate-close-into-2
     close-into-requires
-    (λ c κs. search needs)
     same-length
     same-length-2
     returns-8)

@@ -50,7 +50,7 @@ close-with-requires c κs =
         start z .pre .1,
         (
           sym (l .0),
-          record { lowers = sym (l .1); new-uppers = sym (l .2); new-lowers = sym (l .3) },
+          (sym (l .1), (sym (l .2), (sym (l .3), tt))),
         ),
       ),
     )

@@ -19,14 +19,10 @@ run-requires : tie.Need-run-requires
 run-requires c κs =
     let b = c .before .before .before .before .before .before in
     let pre = start (first b) .pre in
-    let uppers = ap length (first b .copy .ensures) in
-    let lowers = ap length (b .copy2 .ensures) in (
-      ready _ _ (first b .copy .ensures) (pre .0),
-      record {
-        lowers = omega (arith, uppers, lowers, pre);
-        new-uppers = omega (arith, uppers, pre);
-        new-lowers = omega (arith, uppers, pre);
-      },
+    let uppers = ap length (first b .copy .ensures .0) in
+    let lowers = ap length (b .copy2 .ensures .0) in (
+      ready _ _ (first b .copy .ensures .0) (pre .0),
+      (omega (arith, uppers, lowers, pre), (omega (arith, uppers, pre), (omega (arith, uppers, pre), tt))),
     )
 
 -- The place after the rounds, from the one before them.
@@ -38,20 +34,18 @@ deliver-requires c κs =
     let r = c .before .before .before .before .before .before .before .before .before .before .before .before in
     let pre = start (first (copied r)) .pre in
     let kept = r .run .kept in
-    let uppers = ap length (first (copied r) .copy .ensures) in
-    let lowers = ap length (copied r .copy2 .ensures) in
-    record {
-      lowers = omega (arith, kept .0, kept .1 .0, uppers, lowers, pre);
-      new-uppers = omega (arith, kept .0, uppers, pre);
-      new-lowers = omega (arith, kept .0, uppers, pre);
-    }
+    let uppers = ap length (first (copied r) .copy .ensures .0) in
+    let lowers = ap length (copied r .copy2 .ensures .0) in (
+      omega (arith, kept .0, kept .1 .0, uppers, lowers, pre),
+      (omega (arith, kept .0, uppers, pre), (omega (arith, kept .0, uppers, pre), tt)),
+    )
 
 returns : tie.Need-returns
 returns c =
     let d = c .before .before .before .before in
     let r = d .before .before .before .before .before .before .before .before .before .before .before .before .before in
-    let of-p = same-pairs _ _ _ _ (first (copied r) .copy .ensures) (copied r .copy2 .ensures) in
-    ended-with _ _ _ _ _ (r .run .result) of-p (r .run .ensures) (d .deliver .ensures)
+    let of-p = same-pairs _ _ _ _ (first (copied r) .copy .ensures .0) (copied r .copy2 .ensures .0) in
+    ended-with _ _ _ _ _ (r .run .result) (d .deliver .result) of-p (r .run .ensures) (d .deliver .ensures)
 
 pub close-with-spec : {M : Type 1} → statement M
 close-with-spec =

@@ -9,11 +9,11 @@ use Rattle.closure.proofs.deliver.Tie as tie
 returns : tie.Need-returns
 returns c =
     let copied = c .before .before .before .before .before .before in
-    delivered _ _ _ _ _ (copied .before .before .enum-told .given .1)
-    (same-pairs _ _ _ _ (copied .copy .ensures) (c .before .before .copy2 .ensures))
+    let ending = copied .before .before .before .ending in
+    delivered _ _ _ _ _ (ending .given .1) (same-pairs _ _ _ _ (copied .copy .ensures .0) (c .before .before .copy2 .ensures .0))
 
 returns-2 : tie.Need-returns-2
-returns-2 c = undelivered _ _ _ _ (c .enum-told2 .given .1) refl
+returns-2 c = undelivered _ _ _ _ (c .enum-told .given .1) refl
 
 pub deliver-spec : {M : Type 1} → statement M
 deliver-spec =

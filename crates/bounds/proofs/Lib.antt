@@ -1,0 +1,2 @@
+-- The laws that the function's proof cites. Assumes nothing.
+mod Laws

@@ -1,0 +1,47 @@
+-- `bounds::within_limit` meets its promise: before a turn it is known whether all figures before i are within the limit.
+-- Assumes nothing.
+use Prim.Native.Nat.{ℕ, _-_, _≤_, _<_}
+use native.Mathlib.Omega.{arith}
+use borrow.Author.Needs.{needs}
+use borrow.Author.Count.{below-none}
+use lib.ListN.{length, getD}
+use Rattle.laws.specs.Tests.{Tells}
+use Rattle.laws.proofs.Tests.{leb-told, all-turn}
+use Rattle.bounds.specs.Bounds.{figureLimit}
+use Rattle.bounds.proofs.Laws.{Within, within-told}
+use Rattle.bounds.proofs.within_limit.Statement.{statement}
+use Rattle.bounds.proofs.within_limit.Tie as tie
+
+abbrev Inv-loop : tie.InvT-loop
+Inv-loop figures within₀ i₀ within i = (i ≤ length figures) × Tells within ((k : ℕ) → k < i → Within figures k)
+
+abbrev μ-loop : tie.MeasureT-loop
+μ-loop figures within₀ i₀ within i = length figures - i
+
+loop-holds : tie.Need-loop-holds Inv-loop μ-loop
+loop-holds c = (search needs, below-none _)
+
+loop-again : tie.Need-loop-again Inv-loop μ-loop
+loop-again c =
+    let us = c .before .before .before .args .figures .now in
+    let head = c .before .before .loop in
+    (omega arith, all-turn (Within us) (head .i) (head .within) _ (head .inv .1) (leb-told (getD us (head .i) 0) figureLimit))
+
+returns : tie.Need-returns Inv-loop μ-loop
+returns c =
+    let head = c .before .loop in
+    within-told (c .before .before .args .figures .now) (head .i) (head .within) (omega arith) (head .inv .1)
+
+pub within-limit-spec : {M : Type 1} → statement M
+within-limit-spec =
+    tie.close
+    (tie.spec
+    Inv-loop
+    μ-loop
+    loop-holds
+    (λ c. search needs)
+    (λ c. search needs)
+    (λ c. search needs)
+    (λ c. search needs)
+    loop-again
+    returns)

@@ -1,0 +1,2 @@
+-- The largest figure of a pair.
+pub mod Bounds

@@ -1,0 +1,34 @@
+-- `closure::advance` meets its contract: what is copied back is the round that was compared.
+-- Assumes nothing.
+use mathlib.Core.Path.{_∙_}
+use borrow.Author.Needs.{needs}
+use Rattle.curves.specs.Pairs.{pairOf}
+use Rattle.rounds.proofs.Said.{rounded}
+use Rattle.closure.proofs.Laws.{pairs-told, advanced}
+use Rattle.closure.proofs.advance.Statement.{statement}
+use Rattle.closure.proofs.advance.Tie as tie
+
+returns : tie.Need-returns
+returns c =
+    let lowers = c .before .before .copy2 in
+    let uppers = c .before .before .before .before .before .before .before .copy in
+    let first = c .before .before .before .before .before .before .before .before .before .before .before .before .before .before in
+    let start = first .before .before .before .before .before .before .before .before .before in
+    let us = start .args .upper .now in
+    let ls = start .args .lower .now in
+    advanced us ls _ _ _ _ _ (first .round .ensures ∙ rounded (pairOf us ls) _ (start .pre))
+    (pairs-told us ls _ _ (uppers .result) (lowers .result) (uppers .ensures .1) (lowers .ensures .1))
+    (uppers .ensures .0) (lowers .ensures .0)
+
+pub advance-spec : {M : Type 1} → statement M
+advance-spec =
+    tie.close
+    (tie.spec
+    (λ c κs. search needs)
+    (λ c κs. search needs)
+    (λ c κs. search needs)
+    (λ c. search needs)
+    (λ c. search needs)
+    (λ c. search needs)
+    (λ c. search needs)
+    returns)

@@ -1,0 +1,48 @@
+-- `closure::crossed` meets its contract: before a turn no least before i is above its ceiling.
+-- Assumes nothing.
+use Prim.Native.Nat.{ℕ, _-_, _≤_, _<_}
+use native.Mathlib.Omega.{arith}
+use borrow.Author.Needs.{needs}
+use borrow.Author.Count.{below-none, below-more}
+use lib.ListN.{length, getD}
+use Rattle.closure.proofs.Laws.{crossed-at, uncrossed}
+use Rattle.closure.proofs.crossed.Statement.{statement}
+use Rattle.closure.proofs.crossed.Tie as tie
+
+abbrev Inv-loop : tie.InvT-loop
+Inv-loop upper lower i₀ i = (i ≤ length upper) × ((k : ℕ) → k < i → getD lower k 0 ≤ getD upper k 0)
+
+abbrev μ-loop : tie.MeasureT-loop
+μ-loop upper lower i₀ i = length upper - i
+
+returns : tie.Need-returns Inv-loop μ-loop
+returns c =
+    let turn = c .before .before .before .before in
+    let args = turn .before .args in
+    crossed-at (args .upper .now) (args .lower .now) (turn .loop .i) (omega arith) (c .if1 .taken)
+
+loop-again : tie.Need-loop-again Inv-loop μ-loop
+loop-again c =
+    (search needs, below-more _ _ (c .before .before .before .before .loop .inv .1) (c .if1 .left))
+
+returns-2 : tie.Need-returns-2 Inv-loop μ-loop
+returns-2 c =
+    let args = c .before .before .args in
+    uncrossed (args .upper .now) (args .lower .now) (λ i h. c .before .loop .inv .1 i (omega arith))
+
+pub crossed-spec : {M : Type 1} → statement M
+crossed-spec =
+    tie.close
+    (tie.spec
+    Inv-loop
+    μ-loop
+    (λ c. (search needs, below-none _))
+    (λ c. search needs)
+    (λ c. search needs)
+    (λ c. search needs)
+    (λ c. search needs)
+    returns
+    (λ c. search needs)
+    (λ c. search needs)
+    loop-again
+    returns-2)

@@ -1,0 +1,98 @@
+-- `closure::run` meets its contract: before a turn the rounds have come to the pair that is held, which weighs less each time.
+-- Assumes nothing.
+use mathlib.Core.Path.{_≡_, refl}
+use native.Mathlib.Omega.{arith}
+use borrow.Author.Needs.{needs}
+use lib.ListN.{length}
+use Rattle.curves.specs.Rounds.{cutOff, Crossed}
+use Rattle.curves.proofs.Weight.{weight}
+use Rattle.curves.specs.Pairs.{pairOf}
+use Rattle.laws.proofs.Tests.{either-true, either-false}
+use Rattle.closure.proofs.Progress.{Held, begins, crosses, arrives, goes-on, lighter, lower-bounded, weight-limit}
+use Rattle.closure.proofs.run.Statement.{statement}
+use Rattle.closure.proofs.run.Tie as tie
+
+abbrev Inv-loop : tie.InvT-loop
+Inv-loop upper₀ lower₀ new-upper₀ new-lower₀ rounds₀ upper lower new-upper new-lower rounds =
+    Held (pairOf upper₀ lower₀) rounds (pairOf upper lower)
+    × (length upper ≡ length upper₀)
+    × (length new-upper ≡ length new-upper₀)
+    × (length new-lower ≡ length new-lower₀)
+
+abbrev μ-loop : tie.MeasureT-loop
+μ-loop upper₀ lower₀ new-upper₀ new-lower₀ rounds₀ upper lower new-upper new-lower rounds = weight (pairOf upper lower)
+
+loop-holds : tie.Need-loop-holds Inv-loop μ-loop
+loop-holds c =
+    let start = c .before .before .before .before in
+    (begins (pairOf (start .args .upper .now) (start .args .lower .now)) (start .pre .1 .0) (start .pre .0 .1), refl, refl, refl)
+
+returns : tie.Need-returns Inv-loop μ-loop
+returns c =
+    let head = c .before .before .before .before .loop in
+    (head .rounds, crosses _ _ _ (head .inv .0) (either-true _ _ _ (c .if1 .taken) (c .before .crossed .ensures)))
+
+advance-requires : tie.Need-advance-requires Inv-loop μ-loop
+advance-requires c κs =
+    let went-on = c .before .before .before .before in
+    let held = went-on .before .before .before .before .loop .inv .0 in
+    let uncrossed = either-false _ _ _ (went-on .if1 .left) (went-on .before .crossed .ensures) in
+    (search needs, (held .bounded, lower-bounded _ (held .even) uncrossed (held .bounded)))
+
+-- The turn's beginning, seen from its round, and that no least was above its ceiling there.
+abbrev head : tie.After-advance Inv-loop μ-loop → tie.At-loop Inv-loop μ-loop
+head a = a .before .before .before .before .before .before .before .before .before
+
+uncrossed : (a : tie.After-advance Inv-loop μ-loop) → ¬ Crossed cutOff (pairOf (head a .loop .upper) (head a .loop .lower))
+uncrossed a =
+    let went-on = a .before .before .before .before .before in
+    either-false _ _ _ (went-on .if1 .left) (went-on .before .crossed .ensures)
+
+returns-2 : tie.Need-returns-2 Inv-loop μ-loop
+returns-2 c =
+    let a = c .before .before .before .before .before .before .before .before .before in
+    arrives _ _ _ (head a .loop .inv .0) (uncrossed a) _ _ (a .advance .ensures) (c .if2 .taken)
+
+add-rounds : tie.Need-add-rounds Inv-loop μ-loop
+add-rounds c =
+    let turn = head (c .before .before .before .before .before .before .before .before .before) in
+    let start = turn .before .before .before .before .before in
+    let p = pairOf (start .args .upper .now) (start .args .lower .now) in
+    omega (arith, turn .loop .inv .0 .turns, weight-limit p (start .pre .0 .0) (start .pre .0 .1))
+
+loop-less : tie.Need-loop-less Inv-loop μ-loop
+loop-less c =
+    let a = c .before .before .before .before .before .before .before .before .before in
+    lighter _ _ _ (head a .loop .inv .0) (uncrossed a) _ _ (a .advance .ensures) (c .if2 .left)
+
+loop-again : tie.Need-loop-again Inv-loop μ-loop
+loop-again c =
+    let a = c .before .before .before .before .before .before .before .before .before in (
+      goes-on _ _ _ (head a .loop .inv .0) (uncrossed a) _ _ (a .advance .ensures) (c .if2 .left),
+      search needs,
+      search needs,
+      search needs,
+    )
+
+pub run-spec : {M : Type 1} → statement M
+run-spec =
+    tie.close
+    (tie.spec
+    Inv-loop
+    μ-loop
+    loop-holds
+    (λ c κs. search needs)
+    (λ c. search needs)
+    (λ c. search needs)
+    (λ c. search needs)
+    (λ c. search needs)
+    returns
+    advance-requires
+    (λ c. search needs)
+    (λ c. search needs)
+    (λ c. search needs)
+    (λ c. search needs)
+    returns-2
+    add-rounds
+    loop-less
+    loop-again)
