@@ -1,23 +1,23 @@
 -- Laws over plain variables that the proofs about a history cite.
 -- Assumes nothing.
-use Prim.Native.Nat.{ℕ, suc, _+_, _-_, _≤_, _<_, max}
+use Prim.Native.Nat.{ℕ, suc, _+_, _-_, _≤_, _<_}
 use mathlib.Core.Path.{_≡_, refl, sym, ap, _∙_, subst, subst⁻¹}
 use mathlib.Core.List.{List, [], _++_}
 use mathlib.Core.Logic.{inl, inr}
-use native.Mathlib.Nat.{le-trans}
 use native.Mathlib.Numerals.{add-one}
 use native.Mathlib.Omega.{arith}
 use lib.ListN.{length, getD, set, take, drop, replicate, length-set, length-drop, length-append}
-use lib.Seq.{length-take-le, take-at, take-suc-set, getD-take, getD-drop, getD-append-add, ext-getD}
-use Rattle.laws.specs.Ranges.{fold, table}
-use Rattle.laws.proofs.Best.{max-best, fold-each, fold-both}
-use Rattle.laws.proofs.Table.{Filled, stored, filled-front, length-table, getD-table, table-self}
+use lib.Seq.{length-take-le, take-at, take-suc-set, getD-take, getD-drop, ext-getD}
+use Rattle.laws.specs.Ranges.{table}
+use Rattle.laws.proofs.Table.{Filled, stored, later, filled-front, length-table, getD-table, table-self}
 use Rattle.curves.specs.Pairs.{Pair, figure, pairOf, horizon}
 use Rattle.curves.specs.Ticks.{then}
 use Rattle.curves.specs.Questions.{FirstNo, Reply, result, refusal}
 use Rattle.curves.proofs.NextTick.{length-then}
 use Rattle.curves.proofs.Asked.{said-no, said-yes, result-from}
-use Rattle.closure.specs.Closing.{maxHorizon, figureLimit, question1, question2, question4}
+use Rattle.bounds.specs.Bounds.{Bounded}
+use Rattle.closure.specs.Closing.{maxHorizon, question1, question2, question4}
+use Rattle.closure.proofs.Said.{within-4}
 use Rattle.history.specs.declared.History.{History}
 use Rattle.history.specs.declared.Opening.{Opening}
 use Rattle.history.specs.declared.Opening.the-variants.{Opened, UpperLength, LowerLength, FigureLimit}
@@ -27,47 +27,12 @@ use Rattle.history.specs.Answers.{openingReply}
 use Rattle.history.specs.Promises.{Room}
 use Rattle.history.specs.Steps.{BeginsWhere, Fits, paddedTo, moved, viewWith}
 
--- ---- the largest figure
-abbrev pub most : List ℕ → ℕ
-most us = fold max 0 (figure 0 us) (length us)
-
--- A turn of the loop that holds the largest of the figures before i.
-pub largest-turn
-    : (us : List ℕ) (i held next : ℕ) → held ≡ fold max 0 (figure 0 us) i → next ≡ max held (getD us i 0)
-    → next ≡ fold max 0 (figure 0 us) (i + 1)
-unfolding fold figure
-largest-turn us i held next p q = q ∙ rw (add-one, p)
-
--- Two lists of one length are within the limit where their largest figures are, and only there.
-module _ (us ls : List ℕ) (e : length ls ≡ length us) where
-  pub most-within : most us ≤ figureLimit → most ls ≤ figureLimit → question4 (pairOf us ls) .asked
-  most-within p q d u v = (
-    le-trans (fold-each (λ x y. y ≤ x) max max-best 0 (figure 0 us) (length us) d u v) p,
-    le-trans (fold-each (λ x y. y ≤ x) max max-best 0 (figure 0 ls) (length ls) d u (omega arith)) q,
-  )
-
-  pub within-most : question4 (pairOf us ls) .asked → (most us ≤ figureLimit) × (most ls ≤ figureLimit)
-  within-most w = (
-    fold-both (λ x y. y ≤ x) max max-best 0 (figure 0 us) figureLimit (length us) (omega arith) (λ k u v. w k u v .0),
-    fold-both (λ x y. y ≤ x) max max-best 0 (figure 0 ls) figureLimit (length ls) (omega arith) (λ k u v. w k u (omega arith) .1),
-  )
-
 -- ---- entries that move to the front
 -- A turn of the loop that moves them: the entries from i on are as they were.
 pub moved-turn
     : (xs out : List ℕ) (i : ℕ) → i + 1 < length xs → Filled (λ k. getD xs k 0) xs out i
     → Filled (λ k. getD xs k 0) xs (set out i (getD out (i + 1) 0)) (i + 1)
-moved-turn xs out i h t = stored t (getD out (i + 1) 0) (omega arith) later
-  where
-    front : List ℕ
-    front = table (λ k. getD xs k 0) i
-
-    later : getD out (i + 1) 0 ≡ getD xs (i + 1) 0
-    later =
-        ap (λ l. getD l (i + 1) 0) (t .parts)
-        ∙ ap (λ k. getD (front ++ drop i xs) (k + 1) 0) (sym (length-table (λ k. getD xs k 0) i))
-        ∙ getD-append-add front (drop i xs) 1 0
-        ∙ getD-drop i xs 1 0
+moved-turn xs out i h t = stored t (getD out (i + 1) 0) (omega arith) (later t (i + 1) (omega arith))
 
 -- ---- a view of a state
 -- The entries that count are a part of the array, where it has them.
@@ -109,16 +74,15 @@ module _ (s : History) where
     pair-seen : viewOf s .pair ≡ pairOf uppers lowers
     pair-seen = λ i. pairOf (entries-take (s .horizon) (s .upper) u i) (entries-take (s .horizon) (s .lower) v i)
 
-    pub legal-most : Legal (viewOf s) → (most uppers ≤ figureLimit) × (most lowers ≤ figureLimit)
-    legal-most l = within-most uppers lowers alike (subst (λ (p : Pair). question4 p .asked) pair-seen (l .figures))
+    pub legal-bounded : Legal (viewOf s) → Bounded uppers × Bounded lowers
+    legal-bounded l = within-4 (pairOf uppers lowers) alike .1 (subst (λ (p : Pair). question4 p .asked) pair-seen (l .figures))
 
-    pub most-legal
-        : 1 ≤ s .horizon → s .horizon ≤ maxHorizon → s .held < s .horizon → most uppers ≤ figureLimit → most lowers ≤ figureLimit
-        → Legal (viewOf s)
-    most-legal p q r a b =
+    pub bounded-legal
+        : 1 ≤ s .horizon → s .horizon ≤ maxHorizon → s .held < s .horizon → Bounded uppers → Bounded lowers → Legal (viewOf s)
+    bounded-legal p q r a b =
         record {
           lengths = (omega (arith, horizon-seen), omega (arith, horizon-seen));
-          figures = subst⁻¹ (λ (p : Pair). question4 p .asked) pair-seen (most-within uppers lowers alike a b);
+          figures = subst⁻¹ (λ (p : Pair). question4 p .asked) pair-seen (within-4 (pairOf uppers lowers) alike .0 (a, b));
           fewer = omega (arith, horizon-seen, held-seen);
         }
 

@@ -1,11 +1,10 @@
 // What a monitor and a generator hold: the pair, and the last ticks of the stream.
 
 ghost use mathlib.Core.Path.{_≡_};
-ghost use Prim.Native.Nat.{max, _≤_, _<_};
+ghost use Prim.Native.Nat.{_≤_, _<_};
 ghost use lib.ListN.{length, replicate};
-ghost use Rattle.laws.specs.Ranges.{fold};
 ghost use Rattle.laws.specs.Tests.{Tells};
-ghost use Rattle.curves.specs.Pairs.{pairOf, figure};
+ghost use Rattle.curves.specs.Pairs.{pairOf};
 ghost use Rattle.closure.specs.Closing.{maxHorizon};
 ghost use Rattle.history.specs.States.{viewOf, added, Legal};
 ghost use Rattle.history.specs.Opening.{opening, fresh, blank, Begun};
@@ -13,10 +12,8 @@ ghost use Rattle.history.specs.Answers.{openingReply};
 ghost use Rattle.history.specs.Promises.{Started, Room, Pushed};
 ghost use Rattle.history.specs.Steps.{BeginsWhere, Fits, paddedTo, moved};
 
-// The longest horizon, and the largest figure of a pair.
+// The longest horizon.
 const MAX_HORIZON: usize = 256;
-
-const FIGURE_LIMIT: u32 = 16_776_960;
 
 // Anyone may build one. Entries of the figures past the horizon, and of the ticks past the held ones, have no effect.
 pub struct History {
@@ -73,10 +70,10 @@ impl History {
         }
         let upper = self.upper;
         let lower = self.lower;
-        if FIGURE_LIMIT < largest(&upper[..horizon]) {
+        if !bounds::within_limit(&upper[..horizon]) {
             return false;
         }
-        if FIGURE_LIMIT < largest(&lower[..horizon]) {
+        if !bounds::within_limit(&lower[..horizon]) {
             return false;
         }
         true
@@ -110,10 +107,10 @@ fn ask(ceilings: &[u32], leasts: &[u32]) -> Opening
     if leasts.len() != horizon {
         return Opening::LowerLength;
     }
-    if FIGURE_LIMIT < largest(ceilings) {
+    if !bounds::within_limit(ceilings) {
         return Opening::FigureLimit;
     }
-    if FIGURE_LIMIT < largest(leasts) {
+    if !bounds::within_limit(leasts) {
         return Opening::FigureLimit;
     }
     Opening::Opened
@@ -185,25 +182,6 @@ fn padded(figures: &[u32]) -> [u32; MAX_HORIZON]
         i += 1;
     }
     out
-}
-
-fn larger(a: u32, b: u32) -> u32
-    ensures { λ r. ⌜ r ≡ max a b ⌝ }
-{
-    if a < b { b } else { a }
-}
-
-// The largest figure. No early way out: so the loop is compiled to one that takes several figures a turn.
-fn largest(figures: &[u32]) -> u32
-    ensures { λ r. ⌜ r ≡ fold max 0 (figure 0 (now (figures .entry))) (length (now (figures .entry))) ⌝ }
-{
-    let mut most = 0;
-    let mut i = 0;
-    while i < figures.len() {
-        most = larger(most, figures[i]);
-        i += 1;
-    }
-    most
 }
 
 // The tick is put behind the held ones. Where these are then too many, the oldest goes.

@@ -2,32 +2,19 @@
 -- Assumes nothing.
 use Prim.Native.Nat.{ℕ, zero, suc, _+_, _-_, _*_, _/_, _≤_, _<_}
 use mathlib.Core.Path.{_≡_, refl, sym, ap, _∙_}
-use mathlib.Core.List.{List, _++_}
+use mathlib.Core.List.{_++_}
 use native.Mathlib.Numerals.{add-one}
 use native.Mathlib.Decide.{decLe}
 use native.Mathlib.Omega.{arith}
 use lib.ListN.{length, getD, length-append}
 use Rattle.laws.specs.Ranges.{fold}
-use Rattle.curves.specs.Pairs.{Pair, horizon, figure, pairOf, ceiling, least}
+use Rattle.curves.specs.Pairs.{Pair, horizon, figure, ceiling, least}
 use Rattle.closure.specs.Closing.{figureLimit, question4}
 use Rattle.csv.specs.Text.{Bytes, header, crlf}
 use Rattle.csv.specs.Numbers.{decimal}
 use Rattle.csv.proofs.Numbers.{decimal-step, decimal-few}
 use Rattle.rendering.specs.Rendering.{line, textOf, longest}
 use Rattle.rendering.specs.Steps.{lineLength}
-
--- ---- question 4 by the entries of the lists
-abbrev pub Within : List ℕ → List ℕ → ℕ → Type 0
-Within us ls i = (getD us i 0 ≤ figureLimit) × (getD ls i 0 ≤ figureLimit)
-
-pub entries-within : (us ls : List ℕ) → ((i : ℕ) → i < length us → Within us ls i) → question4 (pairOf us ls) .asked
-unfolding figure
-entries-within us ls h zero p q = absurd (omega arith)
-entries-within us ls h (suc d) p q = h d q
-
-pub entry-above : (us ls : List ℕ) (i : ℕ) → i < length us → ¬ Within us ls i → ¬ question4 (pairOf us ls) .asked
-unfolding figure
-entry-above us ls i l n q = n (q (suc i) (omega arith) l)
 
 -- ---- numbers
 -- The tenth has one digit fewer.
@@ -84,7 +71,7 @@ module _ (p : Pair) where
         )
 
     -- The figures of the window after the first i.
-    pub next-within : (i : ℕ) → i < horizon p → Within (p .upper) (p .lower) i
+    pub next-within : (i : ℕ) → i < horizon p → (getD (p .upper) i 0 ≤ figureLimit) × (getD (p .lower) i 0 ≤ figureLimit)
     unfolding figure
     next-within i l = q (suc i) (omega arith) l
 

@@ -7,16 +7,13 @@ ghost use mathlib.Core.List.{[]};
 ghost use Prim.Native.Nat.{_≤_};
 ghost use lib.ListN.{length};
 ghost use Rattle.laws.specs.Writing.{Wrote};
-ghost use Rattle.laws.specs.Tests.{Tells};
 ghost use Rattle.curves.specs.Pairs.{pairOf};
 ghost use Rattle.closure.specs.Closing.{question1, question2, question4};
 ghost use Rattle.rendering.specs.Rendering.{longest, padded, textOf, rendering};
 ghost use Rattle.rendering.specs.Answers.{answer};
 
-// The longest horizon, the largest figure of a pair, and the longest text.
+// The longest horizon, and the longest text.
 const MAX_HORIZON: usize = 256;
-
-const FIGURE_LIMIT: u32 = 16_776_960;
 
 const LONGEST: usize = 5_799;
 
@@ -52,7 +49,10 @@ pub fn render(ceilings: &[u32], leasts: &[u32]) -> Rendered
     if leasts.len() != h {
         return refused(Rendering::LowerLength);
     }
-    if !within_limit(ceilings, leasts) {
+    if !bounds::within_limit(ceilings) {
+        return refused(Rendering::FigureLimit);
+    }
+    if !bounds::within_limit(leasts) {
         return refused(Rendering::FigureLimit);
     }
     let mut bytes = blank();
@@ -81,24 +81,6 @@ fn blank() -> [u8; LONGEST]
     ensures { λ r. ⌜ r ≡ padded [] ⌝ }
 {
     [0; LONGEST]
-}
-
-// Whether every figure of the pair is within the limit.
-fn within_limit(ceilings: &[u32], leasts: &[u32]) -> bool
-    requires { ⌜ length (now leasts) ≡ length (now ceilings) ⌝ }
-    ensures { λ r. ⌜ Tells r (question4 (pairOf (now (ceilings .entry)) (now (leasts .entry))) .asked) ⌝ }
-{
-    let mut i = 0;
-    while i < ceilings.len() {
-        if FIGURE_LIMIT < ceilings[i] {
-            return false;
-        }
-        if FIGURE_LIMIT < leasts[i] {
-            return false;
-        }
-        i += 1;
-    }
-    true
 }
 
 // Writes the header line and then the record of each window; the place after the text comes back.

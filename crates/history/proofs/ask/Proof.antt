@@ -2,7 +2,9 @@
 -- Assumes nothing.
 use native.Mathlib.Omega.{arith}
 use borrow.Author.Needs.{needs}
-use Rattle.history.proofs.Histories.{most-within, within-most, no-1, no-2, no-4, all-yes}
+use Rattle.laws.proofs.Tests.{told-yes, told-no}
+use Rattle.closure.proofs.Said.{within-4}
+use Rattle.history.proofs.Histories.{no-1, no-2, no-4, all-yes}
 use Rattle.history.proofs.ask.Statement.{statement}
 use Rattle.history.proofs.ask.Tie as tie
 
@@ -17,19 +19,25 @@ returns-3 c = no-2 _ (omega arith, omega arith) (λ y. omega (arith, y, c .if3 .
 
 returns-4 : tie.Need-returns-4
 returns-4 c =
-    no-4 _ (omega arith, omega arith) (omega arith)
-    (λ y. omega (arith, within-most _ _ (omega arith) y .0, c .before .largest .ensures, c .if4 .taken))
+    let told = c .before .within-limit in
+    let above = told-no _ (told .result) (c .if4 .taken) (told .ensures) in
+    no-4 _ (omega arith, omega arith) (omega arith) (λ y. above (within-4 _ (omega arith) .1 y .0))
 
 returns-5 : tie.Need-returns-5
 returns-5 c =
-    no-4 _ (omega arith, omega arith) (omega arith)
-    (λ y. omega (arith, within-most _ _ (omega arith) y .1, c .before .largest2 .ensures, c .if5 .taken))
+    let told = c .before .within-limit2 in
+    let above = told-no _ (told .result) (c .if5 .taken) (told .ensures) in
+    no-4 _ (omega arith, omega arith) (omega arith) (λ y. above (within-4 _ (omega arith) .1 y .1))
 
 returns-6 : tie.Need-returns-6
 returns-6 c =
+    let uppers = c .before .before .before .within-limit in
+    let lowers = c .before .within-limit2 in
     all-yes _ (omega arith, omega arith) (omega arith)
-    (most-within _ _ (omega arith)
-    (omega (arith, c .before .before .before .largest .ensures)) (omega (arith, c .before .largest2 .ensures)))
+    (within-4 _ (omega arith) .0 (
+      told-yes _ (uppers .result) (c .before .before .if4 .left) (uppers .ensures),
+      told-yes _ (lowers .result) (c .if5 .left) (lowers .ensures),
+    ))
 
 pub ask-spec : {M : Type 1} → statement M
 ask-spec =

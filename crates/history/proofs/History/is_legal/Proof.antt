@@ -1,4 +1,4 @@
--- `history::History::is_legal` meets its promise: each way out answers question 12 by the sizes or by the largest figures.
+-- `history::History::is_legal` meets its promise: each way out answers question 12 by the sizes or by the figures.
 -- Assumes nothing.
 use Prim.Native.Nat.{_≤_}
 use mathlib.Core.Path.{_≡_, sym}
@@ -6,8 +6,9 @@ use native.Mathlib.Omega.{arith}
 use borrow.Author.Needs.{needs}
 use lib.ListN.{length}
 use lib.Seq.{length-take-le}
+use Rattle.laws.proofs.Tests.{told-yes, told-no}
 use Rattle.closure.specs.Closing.{maxHorizon}
-use Rattle.history.proofs.Histories.{legal-sizes, legal-most, most-legal}
+use Rattle.history.proofs.Histories.{legal-sizes, legal-bounded, bounded-legal}
 use Rattle.history.proofs.History.is_legal.Statement.{statement}
 use Rattle.history.proofs.History.is_legal.Tie as tie
 
@@ -33,31 +34,35 @@ lowers e = let l : length (start e .args .self .lower) ≡ maxHorizon = search n
 array-share-prefix-upper : tie.Need-array-share-prefix-upper
 array-share-prefix-upper c = uppers (c .before .before .before .before)
 
-slice-aggregate-largest : tie.Need-slice-aggregate-largest
-slice-aggregate-largest c = sym (length-take-le _ _ (uppers (c .before .before .before .before .before)))
+slice-aggregate-within-limit : tie.Need-slice-aggregate-within-limit
+slice-aggregate-within-limit c = sym (length-take-le _ _ (uppers (c .before .before .before .before .before)))
 
 returns-4 : tie.Need-returns-4
 returns-4 c l =
     let e = c .before .before .before .before .before .before .before in
-    omega (arith, legal-most _ (uppers e) (lowers e) l .0, c .before .largest .ensures, c .if4 .taken)
+    let told = c .before .within-limit in
+    told-no _ (told .result) (c .if4 .taken) (told .ensures) (legal-bounded _ (uppers e) (lowers e) l .0)
 
 array-share-prefix-lower : tie.Need-array-share-prefix-lower
 array-share-prefix-lower c = lowers (c .before .before .before .before .before .before .before)
 
-slice-aggregate-largest-2 : tie.Need-slice-aggregate-largest-2
-slice-aggregate-largest-2 c = sym (length-take-le _ _ (lowers (c .before .before .before .before .before .before .before .before)))
+slice-aggregate-within-limit-2 : tie.Need-slice-aggregate-within-limit-2
+slice-aggregate-within-limit-2 c = sym (length-take-le _ _ (lowers (c .before .before .before .before .before .before .before .before)))
 
 returns-5 : tie.Need-returns-5
 returns-5 c l =
     let e = c .before .before .before .before .before .before .before .before .before .before in
-    omega (arith, legal-most _ (uppers e) (lowers e) l .1, c .before .largest2 .ensures, c .if5 .taken)
+    let told = c .before .within-limit2 in
+    told-no _ (told .result) (c .if5 .taken) (told .ensures) (legal-bounded _ (uppers e) (lowers e) l .1)
 
 returns-6 : tie.Need-returns-6
 returns-6 c =
     let e = c .before .before .before .before .before .before .before .before .before .before in
-    let upper-most = c .before .before .before .before .largest .ensures in
-    let lower-most = c .before .largest2 .ensures in
-    most-legal _ (uppers e) (lowers e) (omega arith) (omega arith) (omega arith) (omega arith) (omega arith)
+    let upper = c .before .before .before .before .within-limit in
+    let lower = c .before .within-limit2 in
+    bounded-legal _ (uppers e) (lowers e) (omega arith) (omega arith) (omega arith)
+    (told-yes _ (upper .result) (c .before .before .before .if4 .left) (upper .ensures))
+    (told-yes _ (lower .result) (c .if5 .left) (lower .ensures))
 
 pub is-legal-spec : {M : Type 1} → statement M
 is-legal-spec =
@@ -67,11 +72,11 @@ is-legal-spec =
     returns-2
     returns-3
     array-share-prefix-upper
-    slice-aggregate-largest
+    slice-aggregate-within-limit
     (λ c κs. search needs)
     returns-4
     array-share-prefix-lower
-    slice-aggregate-largest-2
+    slice-aggregate-within-limit-2
     (λ c κs. search needs)
     returns-5
     returns-6)
