@@ -2,7 +2,7 @@
 -- Assumes nothing.
 use Prim.Native.Nat.{ℕ, _+_, _-_, _≤_, _<_}
 use mathlib.Core.Path.{_≡_, refl, sym, ap, _∙_, subst}
-use mathlib.Core.Bool.{Bool, true, false}
+use mathlib.Core.Bool.{true, false}
 use mathlib.Core.List.{List, [], _∷_, _++_, map, append-assoc, append-nil}
 use mathlib.Core.Logic.{inl, inr}
 use native.Mathlib.Omega.{arith}
@@ -10,15 +10,17 @@ use lib.ListN.{length, getD, take, drop, length-drop, drop-of-length-le}
 use lib.Seq.{drop-drop}
 use Rattle.laws.specs.Tests.{Either}
 use Rattle.laws.proofs.Tests.{either-true, either-false}
-use Rattle.curves.specs.Questions.{AllYes, FirstNo}
+use Rattle.curves.specs.Questions.{AllYes, FirstNo, result, refusal}
+use Rattle.curves.proofs.Asked.{no-before}
 use Rattle.csv.specs.Text.{Bytes, records}
-use Rattle.csv.proofs.Splitting.{records-first, record-short}
-use Rattle.constraints.specs.Constraints.{Constraint, WellFormed, constraintOf, InRange, New}
-use Rattle.constraints.specs.Reading.{recordQuestions}
-use Rattle.constraints.specs.Steps.{Holds, with, firstRecord, Recorded, triple}
-use Rattle.constraints.specs.declared.record.Record.the-variants.{Spells}
+use Rattle.csv.proofs.Splitting.{rest-is, records-first, record-short}
+use Rattle.records.specs.Records.{triple, firstRecord}
+use Rattle.records.specs.Recording.{spelt, recording}
+use Rattle.records.proofs.Said.{refused-iff, given-from}
+use Rattle.constraints.specs.Constraints.{Constraint, constraintOf, InRange, New}
+use Rattle.constraints.specs.Reading.{question7, question8, question9, recordQuestions}
+use Rattle.constraints.specs.Steps.{Holds, with}
 use Rattle.constraints.specs.declared.table.Table.{Table}
-use Rattle.constraints.proofs.Spelling.{rest-is}
 use Rattle.constraints.proofs.Tables.{holds-more, names-told}
 
 -- Of the records rs₀ all are taken into the table t but the last, rs: what is asked of these settles what is asked of all.
@@ -32,29 +34,27 @@ pub record Reached (rs₀ : List Bytes) (t : Table) (rs : List Bytes) : Type 0 w
 pub reached-none : (rs : List Bytes) (t : Table) → Holds t [] → Reached rs t rs
 reached-none rs t h = record { taken = []; holds = h; all = refl; yeses = λ ys. ys; noes = λ n f. f }
 
--- The next record is faulty in its form, its figures or its window, or is taken.
+-- The next record is refused with 7 or 8, or its window is named already, or it is taken.
 module _ (rs₀ : List Bytes) (t : Table) (r : Bytes) (rs : List Bytes) (a : Reached rs₀ t (r ∷ rs)) where
-  pub faulty-form : ¬ WellFormed r → FirstNo (recordQuestions [] rs₀) 7
-  faulty-form n = a .noes 7 (inl (refl, n))
+  refused-next : (n : ℕ) → FirstNo (question7 r ∷ question8 r ∷ []) n → FirstNo (recordQuestions [] rs₀) n
+  refused-next n f =
+      a .noes n
+      (no-before (question7 r ∷ question8 r ∷ []) (question9 (a .taken) r ∷ recordQuestions (a .taken ++ (constraintOf r ∷ [])) rs) n f)
 
-  module _ (w : WellFormed r) where
-    pub faulty-range : ¬ InRange (constraintOf r) → FirstNo (recordQuestions [] rs₀) 8
-    faulty-range n = a .noes 8 (inr (w, inl (refl, n)))
+  module _ (ys : AllYes (question7 r ∷ question8 r ∷ [])) where
+    again-next : ¬ New (a .taken) (constraintOf r) → FirstNo (recordQuestions [] rs₀) 9
+    again-next n = a .noes 9 (inr (ys .0, inr (ys .1 .0, inl (refl, n))))
 
-    module _ (i : InRange (constraintOf r)) where
-      pub faulty-window : ¬ New (a .taken) (constraintOf r) → FirstNo (recordQuestions [] rs₀) 9
-      faulty-window n = a .noes 9 (inr (w, inr (i, inl (refl, n))))
-
-      pub reached-more : New (a .taken) (constraintOf r)
-          → Reached rs₀ (with t (constraintOf r .window) (constraintOf r .least) (constraintOf r .most)) rs
-      reached-more new =
-          record {
-            taken = a .taken ++ (constraintOf r ∷ []);
-            holds = holds-more t (a .taken) (constraintOf r) (a .holds) i new;
-            all = append-assoc (a .taken) (constraintOf r ∷ []) (map constraintOf rs) ∙ a .all;
-            yeses = λ ys. a .yeses (w, (i, (new, ys)));
-            noes = λ n f. a .noes n (inr (w, inr (i, inr (new, f))));
-          }
+    taken-next : New (a .taken) (constraintOf r)
+        → Reached rs₀ (with t (constraintOf r .window) (constraintOf r .least) (constraintOf r .most)) rs
+    taken-next new =
+        record {
+          taken = a .taken ++ (constraintOf r ∷ []);
+          holds = holds-more t (a .taken) (constraintOf r) (a .holds) (ys .1 .0) new;
+          all = append-assoc (a .taken) (constraintOf r ∷ []) (map constraintOf rs) ∙ a .all;
+          yeses = λ more. a .yeses (ys .0, (ys .1 .0, (new, more)));
+          noes = λ n f. a .noes n (inr (ys .0, inr (ys .1 .0, inr (new, f))));
+        }
 
 -- The record that a text s has at k: it ends within the text, and the other records begin after its CR LF.
 abbrev pub recordAt : Bytes → ℕ → Bytes
@@ -74,30 +74,46 @@ records-at s k l =
     after : drop (n + 2) (drop k s) ≡ drop (k + n + 2) s
     after = let e : k + (n + 2) ≡ k + n + 2 = omega arith in drop-drop (n + 2) k s ∙ ap (λ j. drop j s) e
 
--- Of a text s the records up to k are taken into the table t, and the one at k was found to be a constraint.
+-- The record r was found to be a constraint.
+module _ (r : Bytes) (w x m n : ℕ) (found : result (spelt (triple w x m) n) ≡ recording r) where
+  asked : AllYes (question7 r ∷ question8 r ∷ [])
+  asked = given-from r _ (sym found) .0
+
+  same : spelt (constraintOf r) (length r) ≡ spelt (triple w x m) n
+  same = given-from r _ (sym found) .1
+
+  pub found-in-range : InRange (triple w x m)
+  found-in-range = subst InRange (ap (λ p. p .constraint) same) (asked .1 .0)
+
+  pub found-length : n ≡ length r
+  found-length = sym (ap (λ p. p .bytes) same)
+
+-- Of a text s the records up to k are taken into the table t: what follows of the one at k.
 module _ (s : Bytes) (rs₀ : List Bytes) (t : Table) (k : ℕ) (l : k < length s) (a : Reached rs₀ t (records (drop k s))) where
-  pub reached-at : Reached rs₀ t (recordAt s k ∷ records (drop (k + length (recordAt s k) + 2) s))
-  reached-at = subst (Reached rs₀ t) (records-at s k l) a
+  here : Reached rs₀ t (recordAt s k ∷ records (drop (k + length (recordAt s k) + 2) s))
+  here = subst (Reached rs₀ t) (records-at s k l) a
 
-  module _ (w x m n : ℕ) (found : Recorded (recordAt s k) (Spells w x m n)) (b : Bool) (told : b ≡ getD (t .named) (w - 1) false) where
-    new-told-here
-        : Either b (¬ New (reached-at .taken) (constraintOf (recordAt s k))) (New (reached-at .taken) (constraintOf (recordAt s k)))
-    new-told-here =
-        subst (λ c. Either b (¬ New (reached-at .taken) c) (New (reached-at .taken) c)) (found .2)
-        (names-told t (reached-at .taken) (triple w x m) (reached-at .holds) (found .1) b told)
+  pub refused-at : (n : ℕ) → refusal n ≡ recording (recordAt s k) → FirstNo (recordQuestions [] rs₀) n
+  refused-at n e = refused-next rs₀ t _ _ here n (refused-iff (recordAt s k) n .0 (sym e))
 
-    in-range : InRange (constraintOf (recordAt s k))
-    in-range = subst InRange (found .2) (found .1)
+  module _ (w x m n : ℕ) (found : result (spelt (triple w x m) n) ≡ recording (recordAt s k)) where
+    told : Either (getD (t .named) (w - 1) false) (¬ New (here .taken) (constraintOf (recordAt s k)))
+        (New (here .taken) (constraintOf (recordAt s k)))
+    told =
+        subst (λ p. Either (getD (t .named) (p .constraint .window - 1) false) (¬ New (here .taken) (constraintOf (recordAt s k)))
+        (New (here .taken) (constraintOf (recordAt s k))))
+        (same (recordAt s k) w x m n found)
+        (names-told t (here .taken) (constraintOf (recordAt s k)) (here .holds) (asked (recordAt s k) w x m n found .1 .0))
 
-    pub again-at : b ≡ true → FirstNo (recordQuestions [] rs₀) 9
-    again-at e = faulty-window rs₀ t _ _ reached-at (found .0) in-range (either-true _ _ b e new-told-here)
+    pub again-at : getD (t .named) (w - 1) false ≡ true → FirstNo (recordQuestions [] rs₀) 9
+    again-at e = again-next rs₀ t _ _ here (asked (recordAt s k) w x m n found) (either-true _ _ _ e told)
 
-    pub onward-at : b ≡ false → Reached rs₀ (with t w x m) (records (drop (k + n + 2) s))
+    pub onward-at : getD (t .named) (w - 1) false ≡ false → Reached rs₀ (with t w x m) (records (drop (k + n + 2) s))
     onward-at e =
-        rw (found .3)
-        (subst (λ c. Reached rs₀ (with t (c .window) (c .least) (c .most)) (records (drop (k + length (recordAt s k) + 2) s)))
-        (sym (found .2))
-        (reached-more rs₀ t _ _ reached-at (found .0) in-range (either-false _ _ b e new-told-here)))
+        subst
+        (λ p. let c = p .constraint in Reached rs₀ (with t (c .window) (c .least) (c .most)) (records (drop (k + p .bytes + 2) s)))
+        (same (recordAt s k) w x m n found)
+        (taken-next rs₀ t _ _ here (asked (recordAt s k) w x m n found) (either-false _ _ _ e told))
 
 -- No record is left.
 pub reached-end : (s : Bytes) (rs₀ : List Bytes) (t : Table) (k : ℕ) → length s ≤ k → Reached rs₀ t (records (drop k s))

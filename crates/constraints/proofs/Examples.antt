@@ -1,5 +1,4 @@
 -- The definitions compute: filling a set of constraints up to a horizon, and which record's fault decides. Assumes nothing.
-use Prim.Native.Nat.{ℕ}
 use mathlib.Core.Path.{_≡_, refl}
 use mathlib.Core.List.{[], _∷_, _++_}
 use mathlib.Core.Logic.{⊎-map, Dec·and, Dec·not}
@@ -10,21 +9,19 @@ use Rattle.curves.specs.Pairs.{Pair, pairOf}
 use Rattle.curves.specs.Questions.{ask}
 use Rattle.csv.specs.Text.{Bytes, comma, crlf, header, records, fields}
 use Rattle.csv.specs.Numbers.{valueAfter}
-use Rattle.constraints.specs.Decisions.{digit?, numeral?, wellFormed?, inRange?}
+use Rattle.records.specs.Records.{triple}
+use Rattle.records.specs.Decisions.{digit?, numeral?, wellFormed?, inRange?}
 use Rattle.constraints.specs.Reading.{refused, reading}
-use Rattle.constraints.specs.Constraints.{Constraint, named, filled}
-
-triple : ℕ → ℕ → ℕ → Constraint
-triple w l m = record { window = w; least = l; most = m }
+use Rattle.constraints.specs.Constraints.{named, filled}
 
 -- The published triples up to their horizon: windows 1, 2 and 4 are filled by the smallest most, 3.
 published : filled 5 (triple 3 0 3 ∷ triple 5 5 9 ∷ []) ≡ pairOf (3 ∷ 6 ∷ 3 ∷ 12 ∷ 9 ∷ []) (0 ∷ 0 ∷ 0 ∷ 0 ∷ 5 ∷ [])
-unfolding named table triple
+unfolding named table
 published = refl
 
 -- Up to a longer horizon, windows past the largest that is named are filled like others.
 longer : filled 6 (triple 3 0 3 ∷ triple 5 5 9 ∷ []) ≡ pairOf (3 ∷ 6 ∷ 3 ∷ 12 ∷ 9 ∷ 18 ∷ []) (0 ∷ 0 ∷ 0 ∷ 0 ∷ 5 ∷ 0 ∷ [])
-unfolding named table triple
+unfolding named table
 longer = refl
 
 -- The first faulty record decides, not the last: a window named twice in record 2 gives 9, although record 3, `x`, has no form.

@@ -4,8 +4,6 @@ pub mod Faulty
 pub mod Named
 pub mod Streams
 mod Examples
-mod Spelling
-mod Fields
 mod Tables
 mod Asking
 mod Answered

@@ -118,9 +118,8 @@ entry cs what z xs e d p q =
 
 -- What the table tells of a window in range.
 pub names-told : (t : Table) (cs : List Constraint) (c : Constraint) → Holds t cs → InRange c
-    → (r : Bool) → r ≡ getD (t .named) (c .window - 1) false → Either r (¬ New cs c) (New cs c)
-names-told t cs c h i r e =
-    rw (e, entry cs (λ x. true) false (t .named) (h .names) (c .window) (i .some) (i .window)) (new-told cs c)
+    → Either (getD (t .named) (c .window - 1) false) (¬ New cs c) (New cs c)
+names-told t cs c h i = rw (entry cs (λ x. true) false (t .named) (h .names) (c .window) (i .some) (i .window)) (new-told cs c)
 
 -- ---- what is filled from a table
 -- What is named, or else another value than the table's.

@@ -1,48 +1,15 @@
--- Constraints (triples), how a record spells one, and the pair that a set of them stands for (document 01, "Triples as CSV text").
+-- Constraints (triples), and the pair that a set of them stands for (document 01, "Triples as CSV text").
 use Prim.Native.Nat.{ℕ, _*_, _≤_, min, max}
 use mathlib.Core.Path.{_≡_}
 use mathlib.Core.Bool.{cond}
 use mathlib.Core.List.{List, [], _∷_}
 use lib.Dec.{eqb}
-use lib.ListN.{length, getD}
 use Rattle.laws.specs.Ranges.{table}
 use Rattle.laws.specs.Tests.{Each}
 use Rattle.curves.specs.Streams.{sum}
 use Rattle.curves.specs.Pairs.{Pair, pairOf}
-use Rattle.closure.specs.Closing.{maxHorizon}
-use Rattle.csv.specs.Text.{Bytes, fields}
-use Rattle.csv.specs.Numbers.{Numeral, value}
-
--- Every window of `window` ticks has at least `least` and at most `most` messages.
-pub record Constraint : Type 0 where
-  pub window : ℕ
-  pub least : ℕ
-  pub most : ℕ
-
--- ---- a record
--- The form of a record: three decimal fields.
-abbrev pub WellFormed : Bytes → Type 0
-WellFormed r = (length (fields r) ≡ 3) × Each Numeral (fields r)
-
--- The constraint that a record of that form spells.
-abbrev pub constraintOf : Bytes → Constraint
-constraintOf r =
-    record {
-      window = value (getD (fields r) 0 []);
-      least = value (getD (fields r) 1 []);
-      most = value (getD (fields r) 2 []);
-    }
-
--- The largest least and most that a text may name.
-abbrev pub messageLimit : ℕ
-messageLimit = 65_535
-
--- The figures of a constraint that a text may name.
-pub record InRange (c : Constraint) : Type 0 where
-  pub some : 1 ≤ c .window
-  pub window : c .window ≤ maxHorizon
-  pub least : c .least ≤ messageLimit
-  pub most : c .most ≤ messageLimit
+-- A constraint, and the record that spells it: its form, its figures and their range.
+pub use Rattle.records.specs.Records.{Constraint, WellFormed, constraintOf, messageLimit, InRange}
 
 -- The constraint's window is named by none of the earlier ones.
 abbrev pub New : List Constraint → Constraint → Type 0

@@ -9,8 +9,9 @@ use Rattle.laws.proofs.Tests.{each?, equal-lists?}
 use Rattle.curves.specs.Pairs.{Pair}
 use Rattle.curves.specs.Questions.{Question, answerTo}
 use Rattle.csv.specs.Text.{Bytes, header, records}
-use Rattle.constraints.specs.Decisions.{wellFormed?, inRange?}
-use Rattle.constraints.specs.Constraints.{Constraint, WellFormed, constraintOf, InRange, New, largestWindow, filled}
+use Rattle.constraints.specs.Constraints.{Constraint, constraintOf, New, largestWindow, filled}
+-- 7 and 8: the record's form, and that its figures are in range.
+pub use Rattle.records.specs.Recording.{question7, question8}
 
 -- The longest text.
 abbrev pub textLimit : ℕ
@@ -39,15 +40,7 @@ question6 t =
       answered = Dec·and (decLe (length t) textLimit) (equal-lists? (getD (records t) 0 []) header);
     }
 
--- 7. The record's form.
-abbrev pub question7 : Bytes → Question
-question7 r = record { number = 7; asked = WellFormed r; answered = wellFormed? r }
-
--- 8. Its figures are in range.
-abbrev pub question8 : Bytes → Question
-question8 r = record { number = 8; asked = InRange (constraintOf r); answered = inRange? (constraintOf r) }
-
--- 9. Its window is new.
+-- 9. The record's window is new.
 abbrev pub question9 : List Constraint → Bytes → Question
 question9 earlier r =
     record {

@@ -5,13 +5,11 @@ use mathlib.Core.Bool.{true, false, cond}
 use mathlib.Core.List.{List, [], _++_, map}
 use lib.ListN.{length, getD, set, drop}
 use Rattle.laws.specs.Ranges.{table}
-use Rattle.laws.specs.Tests.{Each}
 use Rattle.curves.specs.Pairs.{Pair, pairOf}
 use Rattle.curves.specs.Questions.{AllYes, FirstNo}
 use Rattle.closure.specs.Closing.{maxHorizon}
-use Rattle.csv.specs.Text.{Bytes, cr, lf, records, fields}
-use Rattle.csv.specs.Numbers.{Digit, Numeral, value}
-use Rattle.constraints.specs.Constraints.{Constraint, WellFormed, constraintOf, InRange, named, largestWindow, smallestMost}
+use Rattle.csv.specs.Text.{Bytes}
+use Rattle.constraints.specs.Constraints.{Constraint, constraintOf, named, largestWindow, smallestMost}
 use Rattle.constraints.specs.Reading.{recordQuestions}
 use Rattle.constraints.specs.declared.Reading.{Reading}
 use Rattle.constraints.specs.declared.Reading.the-variants.{Read, HeaderLine, RecordForm, FigureRange, WindowAgain}
@@ -19,58 +17,7 @@ use Rattle.constraints.specs.declared.Reading.the-variants.{NoRecord, Re
 use Rattle.constraints.specs.declared.Fault.{Fault}
 use Rattle.constraints.specs.declared.Fault.the-variants.{Sound, Form, Range, Again}
 use Rattle.constraints.specs.declared.Scan.{Scan}
-use Rattle.constraints.specs.declared.record.Number.{Number}
-use Rattle.constraints.specs.declared.record.Number.the-variants.{Value, NoNumeral}
-use Rattle.constraints.specs.declared.record.Triple.{Triple}
-use Rattle.constraints.specs.declared.record.Triple.the-variants.{Figures, Malformed}
-use Rattle.constraints.specs.declared.record.Record.{Record}
-use Rattle.constraints.specs.declared.record.Record.the-variants as rec
 use Rattle.constraints.specs.declared.table.Table.{Table}
-
--- ---- a record
--- CR LF stands at the beginning.
-abbrev pub LineEnd : Bytes → Type 0
-LineEnd s = (getD s 0 0 ≡ cr) × (getD s 1 0 ≡ lf)
-
--- The record that a text begins with, and the field that a record begins with.
-abbrev pub firstRecord : Bytes → Bytes
-firstRecord s = getD (records s) 0 []
-
-abbrev pub firstField : Bytes → Bytes
-firstField r = getD (fields r) 0 []
-
--- What a field was found to be, if the number of its digits and a leading zero are left aside; and what it was found to be.
-abbrev pub Spelled : Bytes → Number → Type 0
-Spelled f (Value n) = Each Digit f × (n ≡ value f)
-Spelled f NoNumeral = ¬ Each Digit f
-
-abbrev pub Numbered : Bytes → Number → Type 0
-Numbered f (Value n) = Numeral f × (n ≡ value f)
-Numbered f NoNumeral = ¬ Numeral f
-
--- What three fields were found to be, and what the record r was.
-abbrev pub Figured : Bytes → Bytes → Bytes → Triple → Type 0
-Figured f g h (Figures w l m) = (Numeral f × (w ≡ value f)) × (Numeral g × (l ≡ value g)) × (Numeral h × (m ≡ value h))
-Figured f g h Malformed = ¬ (Numeral f × Numeral g × Numeral h)
-
-abbrev pub triple : ℕ → ℕ → ℕ → Constraint
-triple w l m = record { window = w; least = l; most = m }
-
-abbrev pub Triples : Bytes → Triple → Type 0
-Triples r (Figures w l m) = WellFormed r × (triple w l m ≡ constraintOf r)
-Triples r Malformed = ¬ WellFormed r
-
--- Whether figures are in range.
-abbrev pub Ranged : ℕ → ℕ → ℕ → ℕ → Record → Type 0
-Ranged w l m n (rec.Spells w′ l′ m′ n′) = InRange (triple w l m) × (w′ ≡ w) × (l′ ≡ l) × (m′ ≡ m) × (n′ ≡ n)
-Ranged w l m n rec.Malformed = ⊥
-Ranged w l m n rec.OutOfRange = ¬ InRange (triple w l m)
-
--- What the record r was found to be.
-abbrev pub Recorded : Bytes → Record → Type 0
-Recorded r (rec.Spells w l m n) = WellFormed r × InRange (triple w l m) × (triple w l m ≡ constraintOf r) × (n ≡ length r)
-Recorded r rec.Malformed = ¬ WellFormed r
-Recorded r rec.OutOfRange = WellFormed r × (¬ InRange (constraintOf r))
 
 -- ---- the table
 -- A table holds the constraints cs.

@@ -1,9 +1,8 @@
 // Constraints (triples) as CSV text: reading the pair of arrival curves that they stand for.
 
-mod record;
 mod table;
 
-use record::Record;
+use records::Record;
 use table::Table;
 ghost use mathlib.Core.Path.{_≡_};
 ghost use Prim.Native.Nat.{_≤_};
@@ -64,7 +63,7 @@ pub fn read(text: &[u8], upper: &mut [u32], lower: &mut [u32]) -> Reading
     if MAX_TEXT < text.len() {
         return Reading::HeaderLine;
     }
-    if !is_header(record::find_record(text)) {
+    if !is_header(records::find_record(text)) {
         return Reading::HeaderLine;
     }
     let scan = read_records(text);
@@ -104,14 +103,14 @@ fn read_records(text: &[u8]) -> Scan
     let mut table = Table::empty();
     let mut at = HEADER_LINE;
     while at < text.len() {
-        match record::read_record(&text[at..]) {
+        match records::read_record(&text[at..]) {
             Record::Spells {
                 window,
                 least,
                 most,
                 length,
             } => {
-                if table.names(window) {
+                if table.named[window - 1] {
                     return Scan {
                         fault: Fault::Again,
                         table,

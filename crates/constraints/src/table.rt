@@ -1,10 +1,9 @@
 // The constraints read so far, by their windows.
 
 ghost use mathlib.Core.Path.{_≡_};
-ghost use mathlib.Core.Bool.{false};
 ghost use mathlib.Core.List.{[]};
-ghost use Prim.Native.Nat.{_-_, _≤_, min, max};
-ghost use lib.ListN.{length, getD};
+ghost use Prim.Native.Nat.{_≤_, min, max};
+ghost use lib.ListN.{length};
 ghost use Rattle.curves.specs.Pairs.{pairOf};
 ghost use Rattle.closure.specs.Closing.{maxHorizon};
 ghost use Rattle.constraints.specs.Constraints.{messageLimit};
@@ -39,14 +38,6 @@ impl Table {
             leasts: [0; MAX_WINDOW],
             mosts: [0; MAX_WINDOW],
         }
-    }
-
-    // Whether a window is named.
-    pub(crate) fn names(self, window: usize) -> bool
-        requires { ⌜ (1 ≤ window) × (window ≤ maxHorizon) ⌝ }
-        ensures { λ r. ⌜ r ≡ getD (self .named) (window - 1) false ⌝ }
-    {
-        self.named[window - 1]
     }
 
     // One constraint more.

@@ -11,9 +11,13 @@ use native.Mathlib.Numerals.{add-one}
 use native.Mathlib.Omega.{arith}
 use borrow.Author.Tests.{eq-eqb, ne-eqb, eqb-true}
 use lib.Dec.{eqb}
-use lib.ListN.{length, getD, take, drop, drop-of-length-le}
+use lib.ListN.{length, getD, take, drop, length-drop, drop-of-length-le}
 use lib.Seq.{take-all, take-suc, drop-cons}
 use Rattle.csv.specs.Text.{Bytes, comma, cr, lf, onFirst, records, fields}
+
+-- The rest of a text, as a slice is cut.
+pub rest-is : (s : Bytes) (k : ℕ) → take (length s - k) (drop k s) ≡ drop k s
+rest-is s k = take-all (length s - k) (drop k s) (rw length-drop (le-refl _))
 
 -- `first` is what stands before the first place where Stop holds.
 pub record Splits (Stop : Bytes → Type 0) (first : Bytes → Bytes) : Type 0 where

@@ -28,8 +28,8 @@ use Rattle.closure.specs.Theorems.{Passes}
 use Rattle.closure.proofs.Said.{refused-is, closed-is, fifth}
 use Rattle.csv.specs.Text.{Bytes, records, fields}
 use Rattle.csv.specs.Numbers.{valueAfter}
+use Rattle.records.specs.Decisions.{digit?, numeral?, wellFormed?, inRange?}
 use Rattle.constraints.specs.Constraints.{named}
-use Rattle.constraints.specs.Decisions.{digit?, numeral?, wellFormed?, inRange?}
 use Rattle.constraints.specs.Reading.{later, horizonOf, textPair, question6, recordQuestions, question10, question11}
 use Rattle.constraints.specs.Theorems.{GivesPair, givenPair}
 use Rattle.constraints.proofs.Said.{pair-iff-all-yes, given-is-text-pair}

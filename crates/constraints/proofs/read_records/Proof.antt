@@ -1,15 +1,17 @@
 -- `constraints::read_records` meets its contract: before a turn the records that end before `at` are sound and in the table.
 -- Assumes nothing.
 use Prim.Native.Nat.{_-_}
-use mathlib.Core.Path.{subst}
+use mathlib.Core.Path.{_≡_, sym, ap, _∙_}
 use native.Mathlib.Omega.{arith}
 use borrow.Author.Needs.{needs}
 use lib.ListN.{length, drop}
+use Rattle.curves.specs.Questions.{result}
 use Rattle.csv.specs.Text.{Bytes, records}
-use Rattle.constraints.specs.Steps.{Recorded}
-use Rattle.constraints.specs.declared.record.Record.the-variants.{Spells}
-use Rattle.constraints.proofs.Asking.{Reached, recordAt, record-fits, reached-none, reached-at, reached-end}
-use Rattle.constraints.proofs.Asking.{faulty-form, faulty-range, again-at, onward-at}
+use Rattle.records.specs.Records.{triple}
+use Rattle.records.specs.Recording.{spelt, recording}
+use Rattle.records.specs.Answers.{recordReply}
+use Rattle.constraints.proofs.Asking.{Reached, recordAt, record-fits, reached-none, reached-end}
+use Rattle.constraints.proofs.Asking.{found-in-range, found-length, refused-at, again-at, onward-at}
 use Rattle.constraints.proofs.read_records.Statement.{statement}
 use Rattle.constraints.proofs.read_records.Tie as tie
 
@@ -32,26 +34,30 @@ head k = k .before .before .before .before .before .before
 abbrev Found : tie.After-known-told Inv-loop μ-loop → Type 0
 Found k =
     let (w, (l, (m, (n, _)))) = k .before .window .given .0 in
-    Recorded (recordAt (text (head k)) (head k .loop .at)) (Spells w l m n)
+    result (spelt (triple w l m) n) ≡ recording (recordAt (text (head k)) (head k .loop .at))
 
 found : (k : tie.After-known-told Inv-loop μ-loop) → Found k
-found k = subst (Recorded _) (k .before .window .given .1) (k .before .before .before .read-record .ensures)
+found k = sym (ap recordReply (k .before .window .given .1)) ∙ k .before .before .before .read-record .ensures
 
-names-requires : tie.Need-names-requires Inv-loop μ-loop
-names-requires c κs = (found c .1 .some, found c .1 .window)
+sub-if1 : tie.Need-sub-if1 Inv-loop μ-loop
+sub-if1 c = found-in-range _ _ _ _ _ (found c) .some
+
+element-copy-out-if1 : tie.Need-element-copy-out-if1 Inv-loop μ-loop
+element-copy-out-if1 c = omega (arith, found-in-range _ _ _ _ _ (found c) .window)
 
 returns : tie.Need-returns Inv-loop μ-loop
 returns c =
     let k = c .before .before in
-    again-at (text (head k)) _ _ (head k .loop .at) (omega arith) (head k .loop .inv) _ _ _ _ (found k) _ (c .before .names .ensures)
-    (c .if1 .taken)
+    again-at (text (head k)) _ _ (head k .loop .at) (omega arith) (head k .loop .inv) _ _ _ _ (found k) (c .if1 .taken)
 
 put-requires : tie.Need-put-requires Inv-loop μ-loop
-put-requires c κs = names-requires (c .before .before) κs
+put-requires c κs =
+    let i = found-in-range _ _ _ _ _ (found (c .before .before)) in (i .some, i .window)
 
 add-at-2 : tie.Need-add-at-2 Inv-loop μ-loop
 add-at-2 c =
-    let k = c .before .before .before in omega (arith, found k .3, record-fits (text (head k)) (head k .loop .at) (omega arith))
+    let k = c .before .before .before in
+    omega (arith, found-length _ _ _ _ _ (found k), record-fits (text (head k)) (head k .loop .at) (omega arith))
 
 add-at : tie.Need-add-at Inv-loop μ-loop
 add-at c = omega (arith, add-at-2 c)
@@ -60,20 +66,19 @@ loop-again : tie.Need-loop-again Inv-loop μ-loop
 loop-again c =
     let k = c .before .before .before in
     rw (c .put .ensures)
-    (onward-at (text (head k)) _ _ (head k .loop .at) (omega arith) (head k .loop .inv) _ _ _ _ (found k) _
-    (c .before .before .names .ensures) (c .before .if1 .left))
+    (onward-at (text (head k)) _ _ (head k .loop .at) (omega arith) (head k .loop .inv) _ _ _ _ (found k) (c .before .if1 .left))
 
 returns-2 : tie.Need-returns-2 Inv-loop μ-loop
 returns-2 c =
     let h = c .before .before .before .before .before in
-    faulty-form _ _ _ _ (reached-at (text h) _ _ (h .loop .at) (omega arith) (h .loop .inv))
-    (subst (Recorded _) (c .enum-told .given .1) (c .before .before .read-record .ensures))
+    refused-at (text h) _ _ (h .loop .at) (omega arith) (h .loop .inv) 7
+    (sym (ap recordReply (c .enum-told .given .1)) ∙ c .before .before .read-record .ensures)
 
 returns-3 : tie.Need-returns-3 Inv-loop μ-loop
 returns-3 c =
     let h = c .before .before .before .before .before in
-    let wrong = subst (Recorded _) (c .enum-told2 .given .1) (c .before .before .read-record .ensures) in
-    faulty-range _ _ _ _ (reached-at (text h) _ _ (h .loop .at) (omega arith) (h .loop .inv)) (wrong .0) (wrong .1)
+    refused-at (text h) _ _ (h .loop .at) (omega arith) (h .loop .inv) 8
+    (sym (ap recordReply (c .enum-told2 .given .1)) ∙ c .before .before .read-record .ensures)
 
 returns-4 : tie.Need-returns-4 Inv-loop μ-loop
 returns-4 c =
@@ -92,7 +97,8 @@ read-records-spec =
     (λ c. search needs)
     (λ c κs. search needs)
     (λ c. search needs)
-    names-requires
+    sub-if1
+    element-copy-out-if1
     returns
     put-requires
     add-at

@@ -1,0 +1,26 @@
+-- The definitions compute: a record is given with its length, or refused with 7 or 8. Assumes nothing.
+use mathlib.Core.Path.{_≡_, refl}
+use mathlib.Core.List.{[], _∷_, _++_}
+use mathlib.Core.Logic.{⊎-map, Dec·and}
+use native.Mathlib.Decide.{decLe, ℕ-discrete}
+use Rattle.laws.proofs.Tests.{each?}
+use Rattle.curves.specs.Questions.{ask, result, refusal}
+use Rattle.csv.specs.Text.{comma, crlf, records, fields}
+use Rattle.csv.specs.Numbers.{valueAfter}
+use Rattle.records.specs.Records.{triple, firstRecord}
+use Rattle.records.specs.Decisions.{digit?, numeral?, wellFormed?, inRange?}
+use Rattle.records.specs.Recording.{spelt, recording}
+
+-- `12,0,3` and a record after it: 6 bytes spell the first.
+given : recording (firstRecord (49 ∷ 50 ∷ comma ∷ 48 ∷ comma ∷ 51 ∷ crlf ++ (120 ∷ []))) ≡ result (spelt (triple 12 0 3) 6)
+unfolding recording ask ⊎-map records fields valueAfter each? digit? numeral? wellFormed? inRange? decLe ℕ-discrete Dec·and
+given = refl
+
+-- No byte, and `0,0,3`.
+no-form : recording (firstRecord []) ≡ refusal 7
+unfolding recording ask ⊎-map records fields each? digit? numeral? wellFormed? decLe ℕ-discrete Dec·and
+no-form = refl
+
+no-window : recording (48 ∷ comma ∷ 48 ∷ comma ∷ 51 ∷ []) ≡ refusal 8
+unfolding recording ask ⊎-map fields valueAfter each? digit? numeral? wellFormed? inRange? decLe ℕ-discrete Dec·and
+no-window = refl

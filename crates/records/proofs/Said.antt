@@ -1,0 +1,26 @@
+-- What `recording` says, case by case: refused where 7 or 8 is the first question that is answered no, else the record's constraint.
+-- Assumes nothing.
+use Prim.Native.Nat.{ℕ}
+use mathlib.Core.Path.{_≡_, refl}
+use mathlib.Core.List.{[], _∷_}
+use mathlib.Core.Logic.{_↔_}
+use lib.ListN.{length}
+use Rattle.curves.specs.Questions.{AllYes, FirstNo, result, refusal}
+use Rattle.curves.proofs.Asked.{said-yes, refusal-iff, result-from}
+use Rattle.csv.specs.Text.{Bytes}
+use Rattle.records.specs.Records.{constraintOf}
+use Rattle.records.specs.Recording.{question7, question8, Spelt, spelt, recording}
+
+module _ (r : Bytes) where
+  pub refused-iff : (n : ℕ) → (recording r ≡ refusal n) ↔ FirstNo (question7 r ∷ question8 r ∷ []) n
+  unfolding recording
+  refused-iff n = refusal-iff (question7 r ∷ question8 r ∷ []) _ n
+
+  pub given-is : AllYes (question7 r ∷ question8 r ∷ []) → recording r ≡ result (spelt (constraintOf r) (length r))
+  unfolding recording
+  given-is ys = said-yes (question7 r ∷ question8 r ∷ []) _ refusal _ ys (λ _. refl)
+
+  pub given-from : (s : Spelt) → recording r ≡ result s
+      → AllYes (question7 r ∷ question8 r ∷ []) × (spelt (constraintOf r) (length r) ≡ s)
+  unfolding recording
+  given-from s e = result-from (question7 r ∷ question8 r ∷ []) _ s e

@@ -1,0 +1,11 @@
+-- Document 01's number, or the values, for each case of `Record`.
+use Rattle.curves.specs.Questions.{Reply, result, refusal}
+use Rattle.records.specs.declared.Record.{Record}
+use Rattle.records.specs.declared.Record.the-variants.{Spells, Malformed, OutOfRange}
+use Rattle.records.specs.Records.{triple}
+use Rattle.records.specs.Recording.{Spelt, spelt}
+
+abbrev pub recordReply : Record → Reply Spelt
+recordReply (Spells w l m n) = result (spelt (triple w l m) n)
+recordReply Malformed = refusal 7
+recordReply OutOfRange = refusal 8

@@ -1,0 +1,40 @@
+-- What is asked of a record can be decided. A reader needs these types only.
+use Prim.Native.Nat.{ℕ}
+use mathlib.Core.Logic.{inl, inr, Dec·and}
+use native.Mathlib.Decide.{decLe, ℕ-discrete}
+use lib.ListN.{length, getD}
+use Rattle.laws.proofs.Tests.{each?}
+use Rattle.closure.specs.Closing.{maxHorizon}
+use Rattle.csv.specs.Text.{Bytes, fields}
+use Rattle.csv.specs.Numbers.{Digit, Numeral}
+use Rattle.records.specs.Records.{Constraint, WellFormed, messageLimit, InRange}
+
+unfoldable pub digit? : (b : ℕ) → Dec (Digit b)
+digit? b = Dec·and (decLe 48 b) (decLe b 57)
+
+unfoldable pub numeral? : (f : Bytes) → Dec (Numeral f)
+numeral? f =
+    elim (Dec·and (decLe 1 (length f)) (decLe (length f) 5)) [
+      | yes n ↦ elim (each? Digit digit? f) [
+        | yes d ↦ elim (ℕ-discrete (length f) 1) [
+          | yes e ↦ yes (record { some = n .0; few = n .1; digits = d; no-leading-zero = inl e })
+          | no e ↦ elim (ℕ-discrete (getD f 0 0) 48) [
+            | yes z ↦ no (λ h. elim (h .no-leading-zero) [ inl k ↦ e k | inr k ↦ k z ])
+            | no z ↦ yes (record { some = n .0; few = n .1; digits = d; no-leading-zero = inr z })
+          ]
+        ]
+        | no d ↦ no (λ h. d (h .digits))
+      ]
+      | no n ↦ no (λ h. n (h .some, h .few))
+    ]
+
+unfoldable pub wellFormed? : (r : Bytes) → Dec (WellFormed r)
+wellFormed? r = Dec·and (ℕ-discrete (length (fields r)) 3) (each? Numeral numeral? (fields r))
+
+unfoldable pub inRange? : (c : Constraint) → Dec (InRange c)
+inRange? c =
+    elim (Dec·and (Dec·and (decLe 1 (c .window)) (decLe (c .window) maxHorizon))
+    (Dec·and (decLe (c .least) messageLimit) (decLe (c .most) messageLimit))) [
+      | yes h ↦ yes (record { some = h .0 .0; window = h .0 .1; least = h .1 .0; most = h .1 .1 })
+      | no h ↦ no (λ k. h ((k .some, k .window), (k .least, k .most)))
+    ]
