@@ -5,21 +5,31 @@ use Rattle.report.proofs.Said.{reported-within, reported-part}
 use Rattle.texts.proofs.show.Statement.{statement}
 use Rattle.texts.proofs.show.Tie as tie
 
-array-share-prefix-bytes : tie.Need-array-share-prefix-bytes
-array-share-prefix-bytes c = reported-within _ _ (c .before .before .before .before .report .ensures)
+array-share-prefix-output : tie.Need-array-share-prefix-output
+array-share-prefix-output c = reported-within _ _ (c .before .before .before .report .ensures)
 
-slice-aggregate-write-all-2 : tie.Need-slice-aggregate-write-all-2
-slice-aggregate-write-all-2 c = reported-part _ _ (c .before .before .before .before .before .report .ensures)
+slice-aggregate-write-all : tie.Need-slice-aggregate-write-all
+slice-aggregate-write-all c = reported-part _ _ (c .before .before .before .before .report .ensures)
 
 pub show-spec : {M : Type 1} → statement M
 show-spec =
     tie.close
     (tie.spec
     (λ c κs. search needs)
-    (λ c κs. search needs)
     (λ c. search needs)
     (λ c κs. search needs)
-    array-share-prefix-bytes
-    slice-aggregate-write-all-2
+    (λ c. search needs)
+    (λ c. search needs)
+    (λ c. search needs)
+    (λ c. search needs)
+    (λ c. search needs)
+    (λ c κs. search needs)
+    (λ c. search needs)
+    (λ c. search needs)
+    (λ c. search needs)
+    (λ c. search needs)
+    (λ c κs. search needs)
+    array-share-prefix-output
+    slice-aggregate-write-all
     (λ c κs. search needs)
     (λ c. search needs))
