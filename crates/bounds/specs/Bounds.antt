@@ -1,10 +1,13 @@
--- The largest figure (document 01, question 4), of one list of figures.
+-- The longest horizon and the largest figure (document 01, questions 1 and 4).
 use Prim.Native.Nat.{ℕ, _≤_}
 use mathlib.Core.List.{List}
 use native.Mathlib.Decide.{decLe}
 use lib.ListN.{length}
 use Rattle.laws.proofs.Search.{every?}
 use Rattle.curves.specs.Pairs.{figure}
+
+abbrev pub maxHorizon : ℕ
+maxHorizon = 256
 
 -- 256 times 65,535.
 abbrev pub figureLimit : ℕ

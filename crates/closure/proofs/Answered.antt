@@ -4,19 +4,23 @@ use mathlib.Core.Path.{_≡_, refl, sym, ap, _∙_}
 use mathlib.Core.List.{List, _++_}
 use mathlib.Core.Logic.{inl, inr}
 use lib.ListN.{length, take, drop, take-append-drop}
+use lib.Seq.{length-take-le}
 use Rattle.laws.specs.Ranges.{table}
 use Rattle.curves.specs.Pairs.{Pair, horizon, figure, pairOf}
 use Rattle.curves.specs.Rounds.{whole, Arrives}
+use Rattle.curves.proofs.Figures.{table-figures}
 use Rattle.curves.proofs.Agreement.{cut-off-arrives, cut-off-crosses}
 use Rattle.curves.proofs.Arrival.{never-both}
+use Rattle.runs.specs.declared.Ending.{Ending}
+use Rattle.runs.specs.declared.Ending.the-variants.{Arrived, Crossed, Unfit}
+use Rattle.runs.specs.Running.{Fit, Ended}
 use Rattle.closure.specs.declared.Closing.{Closing}
 use Rattle.closure.specs.declared.Closing.the-variants.{Closed}
 use Rattle.closure.specs.Closing.{question1, question2, question3, question4, refused, closed, closing}
 use Rattle.closure.specs.Answers.{answer}
 use Rattle.closure.specs.Theorems.{Passes}
-use Rattle.closure.specs.Steps.{EndedWith}
-use Rattle.closure.proofs.Said.{refused-is, closed-is, fifth}
-use Rattle.closure.proofs.Laws.{table-figures}
+use Rattle.closure.specs.Steps.{closingFor}
+use Rattle.closure.proofs.Said.{within-4, refused-is, closed-is, fifth}
 
 module _ (p found : Pair) where
   pub no-1 : ¬ question1 p .asked → refused 1 found ≡ closing p found
@@ -28,13 +32,14 @@ module _ (p found : Pair) where
   pub no-3 : question1 p .asked → question2 p .asked → ¬ question3 p found .asked → refused 3 found ≡ closing p found
   no-3 y₁ y₂ n = sym (refused-is p found 3 (inr (y₁, inr (y₂, inl (refl, n)))))
 
-  pub no-4 : question1 p .asked → question2 p .asked → question3 p found .asked → ¬ question4 p .asked → refused 4 found ≡ closing p found
-  no-4 y₁ y₂ y₃ n = sym (refused-is p found 4 (inr (y₁, inr (y₂, inr (y₃, inl (refl, n))))))
-
   -- The rounds have ended, and the first entries of the result lists are xs and ys.
-  module _ (ok : Passes p found) (xs ys : List ℕ) (lx : length xs ≡ horizon p) (ly : length ys ≡ horizon p) where
+  module _ (y₁ : question1 p .asked) (y₂ : question2 p .asked) (y₃ : question3 p found .asked)
+      (xs ys : List ℕ) (lx : length xs ≡ horizon p) (ly : length ys ≡ horizon p) where
     abbrev parts : List ℕ → List ℕ → Pair
     parts us ls = pairOf (us ++ drop (horizon p) (found .upper)) (ls ++ drop (horizon p) (found .lower))
+
+    abbrev front : Pair
+    front = pairOf (take (horizon p) (found .upper)) (take (horizon p) (found .lower))
 
     -- Lists of figures are the tables of their figures.
     whole-lists : closed 0 (pairOf xs ys) found .results ≡ parts xs ys
@@ -44,22 +49,39 @@ module _ (p found : Pair) where
           lower = (ap (table (figure 0 ys)) (lx ∙ sym ly) ∙ table-figures ys) i ++ drop (lx i) (found .lower);
         }
 
-    pub ended-is : (r : Closing)
-        → EndedWith p r (pairOf (take (horizon p) (found .upper)) (take (horizon p) (found .lower))) (pairOf xs ys)
-        → answer r (parts xs ys) ≡ closing p found
-    ended-is r (n, inl (k, a)) =
+    as-found : pairOf xs ys ≡ front → parts xs ys ≡ found
+    as-found e =
+        λ i. record {
+          upper = (ap (λ l. l .upper ++ drop (horizon p) (found .upper)) e ∙ take-append-drop (horizon p) (found .upper)) i;
+          lower = (ap (λ l. l .lower ++ drop (horizon p) (found .lower)) e ∙ take-append-drop (horizon p) (found .lower)) i;
+        }
+
+    -- The lists fit exactly where question 4 is answered yes too.
+    passes : Fit p front → Passes p found
+    passes f = (y₁, (y₂, (y₃, (within-4 p y₂ .0 (f .1 .1), tt))))
+
+    fit : question4 p .asked → Fit p front
+    fit y₄ = (
+      y₁ .1,
+      (
+        (y₂, (length-take-le (horizon p) (found .upper) (y₃ .0), (length-take-le (horizon p) (found .lower) (y₃ .1), tt))),
+        within-4 p y₂ .1 y₄,
+      ),
+    )
+
+    ending-is : (e : Ending) → Ended p e front (pairOf xs ys) → answer (closingFor e) (parts xs ys) ≡ closing p found
+    ending-is (Arrived n) (f, a) =
         let q : Pair = pairOf xs ys in
-        ap (λ x. answer x (parts xs ys)) k
-        ∙ sym (closed-is p found n q ok (cut-off-arrives p n q .1 a) ∙ ap (answer (Closed n)) whole-lists)
-    ended-is r (n, inr (k, x, e)) =
-        ap (λ x. answer x (parts xs ys)) k ∙ ap (refused 5) as-found ∙ sym (refused-is p found 5 (fifth p found ok none))
+        sym (closed-is p found n q (passes f) (cut-off-arrives p n q .1 a) ∙ ap (answer (Closed n)) whole-lists)
+    ending-is Crossed (f, x, e) =
+        ap (refused 5) (as-found e) ∙ sym (refused-is p found 5 (fifth p found (passes f) none))
       where
         none : ¬ ((n : ℕ) × (q : Pair) × Arrives whole p n q)
-        none a = never-both p (a .1) (a .0) n (a .2) (cut-off-crosses p n .1 x)
+        none a = never-both p (a .1) (a .0) (x .0) (a .2) (cut-off-crosses p (x .0) .1 (x .1))
+    ending-is Unfit (n, e) =
+        ap (refused 4) (as-found e)
+        ∙ sym (refused-is p found 4 (inr (y₁, inr (y₂, inr (y₃, inl (refl, λ y₄. n (fit y₄)))))))
 
-        as-found : parts xs ys ≡ found
-        as-found =
-            λ i. record {
-              upper = (ap (λ l. l .upper ++ drop (horizon p) (found .upper)) e ∙ take-append-drop (horizon p) (found .upper)) i;
-              lower = (ap (λ l. l .lower ++ drop (horizon p) (found .lower)) e ∙ take-append-drop (horizon p) (found .lower)) i;
-            }
+    pub ended-is : (e : Ending) (r : Closing) → r ≡ closingFor e → Ended p e front (pairOf xs ys)
+        → answer r (parts xs ys) ≡ closing p found
+    ended-is e r k w = ap (λ x. answer x (parts xs ys)) k ∙ ending-is e w

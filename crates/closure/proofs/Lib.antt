@@ -3,5 +3,3 @@ pub mod Said
 pub mod Given
 pub mod Promised
 mod Answered
-mod Laws
-mod Progress

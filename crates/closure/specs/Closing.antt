@@ -11,11 +11,7 @@ use Rattle.curves.specs.Pairs.{Pair, horizon, ceiling, least}
 use Rattle.curves.specs.Questions.{Question, answerTo}
 use Rattle.curves.specs.Theorems.{Closes}
 use Rattle.curves.proofs.Arrival.{closes?}
-pub use Rattle.bounds.specs.Bounds.{figureLimit}
-
--- The longest horizon.
-abbrev pub maxHorizon : ℕ
-maxHorizon = 256
+pub use Rattle.bounds.specs.Bounds.{maxHorizon, figureLimit}
 
 -- 1. The ceiling list has 1 to 256 entries.
 abbrev pub question1 : Pair → Question

@@ -29,13 +29,18 @@ pub figure-next : (us : List ℕ) (i : ℕ) → getD us i 0 ≡ figure 0 us (i +
 unfolding figure
 figure-next us i = rw add-one
 
+-- A list is the table of its figures.
+pub table-figures : (us : List ℕ) → table (figure 0 us) (length us) ≡ us
+unfolding figure
+table-figures us = table-self (figure 0 us) us 0 (λ i h. refl)
+
 -- A pair with as many leasts as ceilings is its own figures.
 pub given-self : (p : Pair) → length (p .lower) ≡ length (p .upper) → given cutOff p ≡ p
-unfolding given figure
-given-self p e = λ i. record { upper = table-self (ceiling p) (p .upper) 0 (λ k l. refl) i; lower = lowers i }
+unfolding given
+given-self p e = λ i. record { upper = table-figures (p .upper) i; lower = lowers i }
   where
     lowers : table (λ d. least p d) (horizon p) ≡ p .lower
-    lowers = rw (sym e) (table-self (least p) (p .lower) 0 (λ k l. refl))
+    lowers = rw (sym e) (table-figures (p .lower))
 
 -- Equality of curves is an equivalence; with both lists as long as the horizon, equal curves are one.
 module _ {N : Type 0} (z : N) where

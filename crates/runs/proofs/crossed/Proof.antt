@@ -1,13 +1,13 @@
--- `closure::crossed` meets its contract: before a turn no least before i is above its ceiling.
+-- `runs::crossed` meets its contract: before a turn no least before i is above its ceiling.
 -- Assumes nothing.
 use Prim.Native.Nat.{ℕ, _-_, _≤_, _<_}
 use native.Mathlib.Omega.{arith}
 use borrow.Author.Needs.{needs}
 use borrow.Author.Count.{below-none, below-more}
 use lib.ListN.{length, getD}
-use Rattle.closure.proofs.Laws.{crossed-at, uncrossed}
-use Rattle.closure.proofs.crossed.Statement.{statement}
-use Rattle.closure.proofs.crossed.Tie as tie
+use Rattle.runs.proofs.Laws.{crossed-at, uncrossed}
+use Rattle.runs.proofs.crossed.Statement.{statement}
+use Rattle.runs.proofs.crossed.Tie as tie
 
 abbrev Inv-loop : tie.InvT-loop
 Inv-loop upper lower i₀ i = (i ≤ length upper) × ((k : ℕ) → k < i → getD lower k 0 ≤ getD upper k 0)

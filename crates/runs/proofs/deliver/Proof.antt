@@ -1,16 +1,16 @@
--- `closure::deliver` meets its contract: in each arm the ending is known, and with it which pair the result lists hold.
+-- `runs::deliver` meets its contract: in each arm the stop is known, and with it which pair the result lists hold.
 -- Assumes nothing.
 use mathlib.Core.Path.{refl}
 use borrow.Author.Needs.{needs}
-use Rattle.closure.proofs.Laws.{delivered, undelivered, same-pairs}
-use Rattle.closure.proofs.deliver.Statement.{statement}
-use Rattle.closure.proofs.deliver.Tie as tie
+use Rattle.runs.proofs.Laws.{delivered, undelivered, same-pairs}
+use Rattle.runs.proofs.deliver.Statement.{statement}
+use Rattle.runs.proofs.deliver.Tie as tie
 
 returns : tie.Need-returns
 returns c =
     let copied = c .before .before .before .before .before .before in
-    let ending = copied .before .before .before .ending in
-    delivered _ _ _ _ _ (ending .given .1) (same-pairs _ _ _ _ (copied .copy .ensures .0) (c .before .before .copy2 .ensures .0))
+    let stop = copied .before .before .before .stop in
+    delivered _ _ _ _ _ (stop .given .1) (same-pairs _ _ _ _ (copied .copy .ensures .0) (c .before .before .copy2 .ensures .0))
 
 returns-2 : tie.Need-returns-2
 returns-2 c = undelivered _ _ _ _ (c .enum-told .given .1) refl

@@ -4,30 +4,23 @@ use Prim.Native.Nat.{ℕ, zero, suc, _+_, _≤_, _<_}
 use mathlib.Core.Path.{_≡_, refl, sym, ap, _∙_, subst, subst⁻¹, subst₂}
 use mathlib.Core.Bool.{Bool, true, false, _&&_}
 use mathlib.Core.List.{List}
-use mathlib.Core.Logic.{inl, inr}
 use native.Mathlib.Nat.{le-refl}
 use native.Mathlib.Omega.{arith}
 use lib.Dec.{eqb}
 use lib.ListN.{length, getD, take}
 use lib.Seq.{length-take-le, ext-getD}
-use Rattle.laws.specs.Ranges.{table}
 use Rattle.laws.specs.Tests.{Tells}
-use Rattle.laws.proofs.Table.{Filled, later, table-self}
+use Rattle.laws.proofs.Table.{Filled, later}
 use Rattle.laws.proofs.Tests.{tells-same, eqb-told, all-turn}
 use Rattle.curves.specs.Pairs.{Pair, figure, pairOf}
 use Rattle.curves.specs.Rounds.{cutOff, round, Crossed, Arrives, Crosses}
-use Rattle.bounds.specs.Bounds.{Bounded}
-use Rattle.closure.specs.Closing.{maxHorizon}
-use Rattle.closure.specs.Steps.{Advanced, Ended, Delivered, EndedWith}
-use Rattle.closure.specs.declared.Closing.{Closing}
-use Rattle.closure.specs.declared.Closing.the-variants.{Closed, NoClosure}
-use Rattle.closure.specs.declared.Ending.{Ending}
-use Rattle.closure.specs.declared.Ending.the-variants.{Arrived}
-
--- A list is the table of its figures.
-pub table-figures : (us : List ℕ) → table (figure 0 us) (length us) ≡ us
-unfolding figure
-table-figures us = table-self (figure 0 us) us 0 (λ i h. refl)
+use Rattle.bounds.specs.Bounds.{maxHorizon, Bounded}
+use Rattle.runs.specs.Running.{Fit, Ended}
+use Rattle.runs.specs.Steps.{Advanced, Stopped, Delivered}
+use Rattle.runs.specs.declared.Ending.{Ending}
+use Rattle.runs.specs.declared.Ending.the-variants.{Arrived}
+use Rattle.runs.specs.declared.Stop.{Stop}
+use Rattle.runs.specs.declared.Stop.the-variants.{Settled}
 
 -- Lists that are the same before i: a turn of the loop that stores xs over ys, and its end.
 abbrev pub SameBefore : List ℕ → List ℕ → ℕ → Type 0
@@ -80,26 +73,27 @@ advanced us ls nus nls xs ys b r t p q =
       told = rw (p, q) t;
     }
 
--- What an ending that is known tells.
+-- What a stop that is known tells.
 pub delivered
-    : (e : Ending) (n : ℕ) (held found left : Pair) → e ≡ Arrived n → left ≡ held → Delivered e held found (Closed n) left
-delivered e n held found left k s = rw k (refl, s)
+    : (s : Stop) (n : ℕ) (held found left : Pair) → s ≡ Settled n → left ≡ held → Delivered s held found (Arrived n) left
+delivered s n held found left k e = rw k (refl, e)
 
-pub undelivered : (e : Ending) (held found left : Pair) → e ≡ Ending.Crossed → left ≡ found → Delivered e held found NoClosure left
-undelivered e held found left k s = rw k (refl, s)
+pub undelivered : (s : Stop) (held found left : Pair) → s ≡ Stop.Crossed → left ≡ found → Delivered s held found Ending.Crossed left
+undelivered s held found left k e = rw k (refl, e)
 
--- The rounds of p ended with the pair held, which is then delivered.
-pub ended-with
-    : (p p′ held found left : Pair) (e : Ending) (r : Closing)
-    → p′ ≡ p → Ended p′ e held → Delivered e held found r left → EndedWith p r found left
-ended-with p p′ held found left (Arrived n) r k a d = (n, inl (d .0, subst₂ (λ (a b : Pair). Arrives cutOff a n b) k (sym (d .1)) a))
-ended-with p p′ held found left Ending.Crossed r k x d =
-    (x .0, inr (d .0, subst (λ (a : Pair). Crosses cutOff a (x .0)) k (x .1), d .1))
+-- The rounds of p stopped with the pair held, which is then delivered.
+pub ended
+    : (p p′ held found left : Pair) (s : Stop) (r : Ending)
+    → Fit p found → p′ ≡ p → Stopped p′ s held → Delivered s held found r left → Ended p r found left
+ended p p′ held found left (Settled n) r fit k a d =
+    rw (d .0) (fit, subst₂ (λ (a b : Pair). Arrives cutOff a n b) k (sym (d .1)) a)
+ended p p′ held found left Stop.Crossed r fit k x d =
+    rw (d .0) (fit, (x .0, subst (λ (a : Pair). Crosses cutOff a (x .0)) k (x .1)), d .1)
 
 pub same-pairs : (us ls xs ys : List ℕ) → us ≡ xs → ls ≡ ys → pairOf us ls ≡ pairOf xs ys
 same-pairs us ls xs ys e f = λ i. record { upper = e i; lower = f i }
 
--- What `run` asks, of lists that have been copied.
+-- What `until_stop` asks, of lists that have been copied.
 pub ready : (us xs : List ℕ) → xs ≡ us → (length us ≤ maxHorizon) × Bounded us → (length xs ≤ maxHorizon) × Bounded xs
 ready us xs e h = subst⁻¹ (λ (ys : List ℕ). (length ys ≤ maxHorizon) × Bounded ys) e h
 

@@ -1,12 +1,12 @@
--- `closure::advance` meets its contract: what is copied back is the round that was compared.
+-- `runs::advance` meets its contract: what is copied back is the round that was compared.
 -- Assumes nothing.
 use mathlib.Core.Path.{_∙_}
 use borrow.Author.Needs.{needs}
 use Rattle.curves.specs.Pairs.{pairOf}
 use Rattle.rounds.proofs.Said.{rounded}
-use Rattle.closure.proofs.Laws.{pairs-told, advanced}
-use Rattle.closure.proofs.advance.Statement.{statement}
-use Rattle.closure.proofs.advance.Tie as tie
+use Rattle.runs.proofs.Laws.{pairs-told, advanced}
+use Rattle.runs.proofs.advance.Statement.{statement}
+use Rattle.runs.proofs.advance.Tie as tie
 
 returns : tie.Need-returns
 returns c =

@@ -1,13 +1,13 @@
--- `closure::close_into` meets its contract: the four parts to compute in are as long as the pair's lists.
+-- `runs::run_fit` meets its contract: the four parts to compute in are as long as the pair's lists.
 -- Assumes nothing.
 use mathlib.Core.Path.{_≡_, sym}
 use Prim.Native.Nat.{ℕ}
 use mathlib.Core.List.{List}
 use borrow.Author.Needs.{needs}
 use lib.ListN.{length, take}
-use Rattle.closure.proofs.Laws.{part-long}
-use Rattle.closure.proofs.close_into.Statement.{statement}
-use Rattle.closure.proofs.close_into.Tie as tie
+use Rattle.runs.proofs.Laws.{part-long}
+use Rattle.runs.proofs.run_fit.Statement.{statement}
+use Rattle.runs.proofs.run_fit.Tie as tie
 
 -- The function's start, and the length of the pair's lists, from where the four arrays are there.
 abbrev start : tie.After-zeros4 → tie.Start
@@ -22,41 +22,35 @@ long : (z : tie.After-zeros4)
     × Long z (z .before .zeros3 .result)
     × Long z (z .zeros4 .result)
 long z =
-    let short = start z .pre .0 .0 in (
+    let short = start z .pre .0 in (
       part-long _ _ (z .before .before .before .zeros .ensures) short,
       part-long _ _ (z .before .before .zeros2 .ensures) short,
       part-long _ _ (z .before .zeros3 .ensures) short,
       part-long _ _ (z .zeros4 .ensures) short,
     )
 
-slice-aggregate-close-with : tie.Need-slice-aggregate-close-with
-slice-aggregate-close-with c = long (c .before .before .before) .0
+slice-aggregate-run-with : tie.Need-slice-aggregate-run-with
+slice-aggregate-run-with c = long (c .before .before .before) .0
 
-slice-aggregate-close-with-2 : tie.Need-slice-aggregate-close-with-2
-slice-aggregate-close-with-2 c = long (c .before .before .before .before) .1
+slice-aggregate-run-with-2 : tie.Need-slice-aggregate-run-with-2
+slice-aggregate-run-with-2 c = long (c .before .before .before .before) .1
 
-slice-aggregate-close-with-3 : tie.Need-slice-aggregate-close-with-3
-slice-aggregate-close-with-3 c = long (c .before .before .before .before .before) .2
+slice-aggregate-run-with-3 : tie.Need-slice-aggregate-run-with-3
+slice-aggregate-run-with-3 c = long (c .before .before .before .before .before) .2
 
-slice-aggregate-close-with-4 : tie.Need-slice-aggregate-close-with-4
-slice-aggregate-close-with-4 c = long (c .before .before .before .before .before .before) .3
+slice-aggregate-run-with-4 : tie.Need-slice-aggregate-run-with-4
+slice-aggregate-run-with-4 c = long (c .before .before .before .before .before .before) .3
 
-close-with-requires : tie.Need-close-with-requires
-close-with-requires c κs =
+run-with-requires : tie.Need-run-with-requires
+run-with-requires c κs =
     let z = c .before .before .before .before .before .before in
     let l = long z in (
-      start z .pre .0,
-      (
-        start z .pre .1,
-        (
-          sym (l .0),
-          (sym (l .1), (sym (l .2), (sym (l .3), tt))),
-        ),
-      ),
+      start z .pre,
+      (sym (l .0), (sym (l .1), (sym (l .2), (sym (l .3), tt)))),
     )
 
-pub close-into-spec : {M : Type 1} → statement M
-close-into-spec =
+pub run-fit-spec : {M : Type 1} → statement M
+run-fit-spec =
     tie.close
     (tie.spec
     (λ c κs. search needs)
@@ -64,14 +58,14 @@ close-into-spec =
     (λ c κs. search needs)
     (λ c κs. search needs)
     (λ c. search needs)
-    slice-aggregate-close-with
+    slice-aggregate-run-with
     (λ c. search needs)
-    slice-aggregate-close-with-2
+    slice-aggregate-run-with-2
     (λ c. search needs)
-    slice-aggregate-close-with-3
+    slice-aggregate-run-with-3
     (λ c. search needs)
-    slice-aggregate-close-with-4
-    close-with-requires
+    slice-aggregate-run-with-4
+    run-with-requires
     (λ c. search needs)
     (λ c. search needs)
     (λ c. search needs))

@@ -1,4 +1,4 @@
--- `closure::copy` meets its contract: before a turn the figures before i are copied, and it is known whether they stood there.
+-- `runs::copy` meets its contract: before a turn the figures before i are copied, and it is known whether they stood there.
 -- Assumes nothing.
 use Prim.Native.Nat.{_-_, _≤_}
 use mathlib.Core.Path.{_∙_}
@@ -9,10 +9,10 @@ use lib.ListN.{length}
 use Rattle.curves.specs.Pairs.{figure}
 use Rattle.laws.specs.Tests.{Tells}
 use Rattle.laws.proofs.Table.{Filled, unfilled, stored, filled}
-use Rattle.curves.proofs.Figures.{figure-next}
-use Rattle.closure.proofs.Laws.{table-figures, SameBefore, same-turn, same-told}
-use Rattle.closure.proofs.copy.Statement.{statement}
-use Rattle.closure.proofs.copy.Tie as tie
+use Rattle.curves.proofs.Figures.{figure-next, table-figures}
+use Rattle.runs.proofs.Laws.{SameBefore, same-turn, same-told}
+use Rattle.runs.proofs.copy.Statement.{statement}
+use Rattle.runs.proofs.copy.Tie as tie
 
 abbrev Inv-loop : tie.InvT-loop
 Inv-loop from to₀ same₀ i₀ to same i =

@@ -1,4 +1,4 @@
--- `closure::run` meets its contract: before a turn the rounds have come to the pair that is held, which weighs less each time.
+-- `runs::until_stop` meets its contract: before a turn the rounds have come to the pair that is held, which weighs less each time.
 -- Assumes nothing.
 use mathlib.Core.Path.{_≡_, refl}
 use native.Mathlib.Omega.{arith}
@@ -8,9 +8,9 @@ use Rattle.curves.specs.Rounds.{cutOff, Crossed}
 use Rattle.curves.proofs.Weight.{weight}
 use Rattle.curves.specs.Pairs.{pairOf}
 use Rattle.laws.proofs.Tests.{either-true, either-false}
-use Rattle.closure.proofs.Progress.{Held, begins, crosses, arrives, goes-on, lighter, lower-bounded, weight-limit}
-use Rattle.closure.proofs.run.Statement.{statement}
-use Rattle.closure.proofs.run.Tie as tie
+use Rattle.runs.proofs.Progress.{Held, begins, crosses, arrives, goes-on, lighter, lower-bounded, weight-limit}
+use Rattle.runs.proofs.until_stop.Statement.{statement}
+use Rattle.runs.proofs.until_stop.Tie as tie
 
 abbrev Inv-loop : tie.InvT-loop
 Inv-loop upper₀ lower₀ new-upper₀ new-lower₀ rounds₀ upper lower new-upper new-lower rounds =
@@ -74,8 +74,8 @@ loop-again c =
       search needs,
     )
 
-pub run-spec : {M : Type 1} → statement M
-run-spec =
+pub until-stop-spec : {M : Type 1} → statement M
+until-stop-spec =
     tie.close
     (tie.spec
     Inv-loop

@@ -14,8 +14,8 @@ use Rattle.curves.specs.Rounds.{cutOff, round, Crossed, Settled, after, Runs, A
 use Rattle.curves.proofs.Figures.{given-self, round-horizon, round-full, full-same, same-refl}
 use Rattle.curves.proofs.Weight.{below, upper-falls, weight, weight-falls}
 use Rattle.bounds.specs.Bounds.{figureLimit, Bounded}
-use Rattle.closure.specs.Closing.{maxHorizon}
-use Rattle.closure.specs.Steps.{Advanced}
+use Rattle.bounds.specs.Bounds.{maxHorizon}
+use Rattle.runs.specs.Steps.{Advanced}
 use Rattle.laws.proofs.Tests.{either-true, either-false}
 
 -- A pair with as many leasts as ceilings.

@@ -1,12 +1,12 @@
--- `closure::close_with` meets its contract: the rounds are those of the pair that was copied, and what they end with is delivered.
+-- `runs::run_with` meets its contract: the rounds are those of the pair that was copied, and what they stop with is delivered.
 -- Assumes nothing.
 use mathlib.Core.Path.{ap}
 use native.Mathlib.Omega.{arith}
 use borrow.Author.Needs.{needs}
 use lib.ListN.{length}
-use Rattle.closure.proofs.Laws.{ready, ended-with, same-pairs}
-use Rattle.closure.proofs.close_with.Statement.{statement}
-use Rattle.closure.proofs.close_with.Tie as tie
+use Rattle.runs.proofs.Laws.{ready, ended, same-pairs}
+use Rattle.runs.proofs.run_with.Statement.{statement}
+use Rattle.runs.proofs.run_with.Tie as tie
 
 -- The places before the rounds: the function's start, and the two copies.
 abbrev start : tie.After-copy → tie.Start
@@ -15,25 +15,25 @@ start a = a .before .before .before .before .before .before .before .before .bef
 abbrev first : tie.After-copy2 → tie.After-copy
 first b = b .before .before .before .before
 
-run-requires : tie.Need-run-requires
-run-requires c κs =
+until-stop-requires : tie.Need-until-stop-requires
+until-stop-requires c κs =
     let b = c .before .before .before .before .before .before in
     let pre = start (first b) .pre in
     let uppers = ap length (first b .copy .ensures .0) in
     let lowers = ap length (b .copy2 .ensures .0) in (
-      ready _ _ (first b .copy .ensures .0) (pre .0),
+      ready _ _ (first b .copy .ensures .0) (pre .0 .0, pre .0 .1 .1 .0),
       (omega (arith, uppers, lowers, pre), (omega (arith, uppers, pre), (omega (arith, uppers, pre), tt))),
     )
 
 -- The place after the rounds, from the one before them.
-abbrev copied : tie.After-run → tie.After-copy2
+abbrev copied : tie.After-until-stop → tie.After-copy2
 copied r = r .before .before .before .before .before .before .before
 
 deliver-requires : tie.Need-deliver-requires
 deliver-requires c κs =
     let r = c .before .before .before .before .before .before .before .before .before .before .before .before in
     let pre = start (first (copied r)) .pre in
-    let kept = r .run .kept in
+    let kept = r .until-stop .kept in
     let uppers = ap length (first (copied r) .copy .ensures .0) in
     let lowers = ap length (copied r .copy2 .ensures .0) in (
       omega (arith, kept .0, kept .1 .0, uppers, lowers, pre),
@@ -45,15 +45,16 @@ returns c =
     let d = c .before .before .before .before in
     let r = d .before .before .before .before .before .before .before .before .before .before .before .before .before in
     let of-p = same-pairs _ _ _ _ (first (copied r) .copy .ensures .0) (copied r .copy2 .ensures .0) in
-    ended-with _ _ _ _ _ (r .run .result) (d .deliver .result) of-p (r .run .ensures) (d .deliver .ensures)
+    ended _ _ _ _ _ (r .until-stop .result) (d .deliver .result) (start (first (copied r)) .pre .0) of-p (r .until-stop .ensures)
+    (d .deliver .ensures)
 
-pub close-with-spec : {M : Type 1} → statement M
-close-with-spec =
+pub run-with-spec : {M : Type 1} → statement M
+run-with-spec =
     tie.close
     (tie.spec
     (λ c κs. search needs)
     (λ c κs. search needs)
-    run-requires
+    until-stop-requires
     deliver-requires
     (λ c. search needs)
     (λ c. search needs)

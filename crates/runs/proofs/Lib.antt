@@ -1,0 +1,3 @@
+-- The laws that the functions' proofs cite. Assumes nothing.
+mod Laws
+mod Progress

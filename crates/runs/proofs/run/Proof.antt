@@ -1,0 +1,26 @@
+-- `runs::run` meets its promise: rounds are run exactly where the lists fit.
+-- Assumes nothing.
+use mathlib.Core.Path.{refl}
+use borrow.Author.Needs.{needs}
+use Rattle.laws.proofs.Tests.{either-true, either-false}
+use Rattle.runs.proofs.run.Statement.{statement}
+use Rattle.runs.proofs.run.Tie as tie
+
+run-fit-requires : tie.Need-run-fit-requires
+run-fit-requires c κs = either-true _ _ _ (c .before .before .if1 .taken) (c .before .before .before .fits2 .ensures)
+
+returns-2 : tie.Need-returns-2
+returns-2 c = (either-false _ _ _ (c .if1 .left) (c .before .fits2 .ensures), refl)
+
+pub run-spec : {M : Type 1} → statement M
+run-spec =
+    tie.close
+    (tie.spec
+    (λ c κs. search needs)
+    run-fit-requires
+    (λ c. search needs)
+    (λ c. search needs)
+    (λ c. search needs)
+    (λ c. search needs)
+    (λ c. search needs)
+    returns-2)
