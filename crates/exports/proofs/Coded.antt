@@ -1,13 +1,13 @@
 -- Answers as numbers: what stands for an answer of closing and of reading, what an opening leads to, and that verdicts fit.
 -- Assumes nothing.
-use Prim.Native.Nat.{ℕ, _≤_}
+use Prim.Native.Nat.{ℕ}
 use mathlib.Core.Path.{_≡_, refl, sym, ap, _∙_, subst}
 use mathlib.Core.Bool.{Bool, true, false}
 use mathlib.Core.List.{List}
 use native.Mathlib.Omega.{arith}
 use Rattle.curves.specs.Ticks.{then, Verdict, tooMany, tooFew, Right}
-use Rattle.curves.specs.Pairs.{Pair, pairOf}
-use Rattle.curves.specs.Questions.{Reply, result, refusal}
+use Rattle.curves.specs.Pairs.{Pair}
+use Rattle.curves.specs.Questions.{Reply, result}
 use Rattle.curves.proofs.Asked.{no-refusal, same-result}
 use Rattle.closure.specs.Closing as closure
 use Rattle.closure.specs.Answers as closed-answers
@@ -69,12 +69,12 @@ module _ (o : Opening) (a : Reply (Unit {0})) (told : openingReply o ≡ a) (r :
       go LowerLength f = absurd (omega (arith, f))
       go FigureLimit f = absurd (omega (arith, f))
 
-  pub begun-fresh : r ≡ 0 → (p : Pair) (h : History) → Begun a p h → viewOf h ≡ fresh p
-  begun-fresh z p h b = subst (λ (k : Reply (Unit {0})). Begun k p h) (sym told ∙ ready z) b
-
-  pub run-opened : r ≡ 0 → (answers found left : List ℕ) → left ≡ answers → answered r left ≡ afterOpening a answers found
-  run-opened z answers found left is =
-      (λ i. answered (z i) (is i)) ∙ ap (λ k. afterOpening k answers found) (sym (ready z) ∙ told)
+  -- The state is fresh, and what it answers goes into the script; or the script stays as found.
+  pub run-opened : r ≡ 0 → (p : Pair) (h : History) → Begun a p h → (f : View → List ℕ) (found left : List ℕ)
+      → left ≡ f (viewOf h) → answered r left ≡ afterOpening a (f (fresh p)) found
+  run-opened z p h b f found left is =
+      let start : viewOf h ≡ fresh p = subst (λ (k : Reply (Unit {0})). Begun k p h) (sym told ∙ ready z) b in
+      (λ i. answered (z i) ((is ∙ ap f start) i)) ∙ ap (λ k. afterOpening k (f (fresh p)) found) (sym (ready z) ∙ told)
 
   pub run-refused : ¬ (r ≡ 0) → (answers found left : List ℕ) → left ≡ found → answered r left ≡ afterOpening a answers found
   run-refused n answers found left is =

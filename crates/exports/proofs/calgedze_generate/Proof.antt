@@ -1,27 +1,24 @@
--- `exports::calgedze_generate` meets its promise: where the generator opens, it is fresh on the pair, and its ticks are those of the script.
+-- `exports::calgedze_generate` meets its promise: where the generator opens, its ticks are those of the script.
 -- Assumes nothing.
-use mathlib.Core.Path.{refl, ap, _∙_}
+use mathlib.Core.Path.{refl}
 use mathlib.Core.List.{map}
-use Rattle.curves.specs.Pairs.{pairOf}
-use Rattle.history.specs.Opening.{opening}
 use borrow.Author.Needs.{needs}
+use Rattle.curves.specs.Pairs.{pairOf}
 use Rattle.generator.specs.Runs.{sendings}
 use Rattle.exports.specs.Codes.{sendingCode}
-use Rattle.exports.proofs.Coded.{begun-fresh, run-opened, run-refused}
+use Rattle.exports.proofs.Coded.{run-opened, run-refused}
 use Rattle.exports.proofs.calgedze_generate.Statement.{statement}
 use Rattle.exports.proofs.calgedze_generate.Tie as tie
 
 returns : tie.Need-returns
 returns c =
     let ran = c .before .before in
-    let args = ran .before .before .before .before .before .before .before .before .before .args in
-    let p = pairOf (args .ceilings .now) (args .leasts .now) in
     let number = ran .before .before .before .opening-number in
     let told = ran .before .before .before .before .before .«open» in
-    let ready = ran .before .before .if1 .taken in
-    let start = begun-fresh (told .result .opening) (opening p) (told .ensures .answer) _ (number .ensures) ready p _ (told .ensures .history) in
-    run-opened (told .result .opening) (opening p) (told .ensures .answer) _ (number .ensures) ready _ (args .script .now) _
-    (ran .generate .ensures ∙ ap (λ v. map sendingCode (sendings v (args .script .now))) start)
+    let args = ran .before .before .before .before .before .before .before .before .before .args in
+    run-opened (told .result .opening) _ (told .ensures .answer) _ (number .ensures) (ran .before .before .if1 .taken)
+    (pairOf (args .ceilings .now) (args .leasts .now)) _ (told .ensures .history)
+    (λ v. map sendingCode (sendings v (args .script .now))) (args .script .now) _ (ran .generate .ensures)
 
 returns-2 : tie.Need-returns-2
 returns-2 c =

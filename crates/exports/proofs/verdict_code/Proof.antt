@@ -1,7 +1,7 @@
 -- `exports::verdict_code` meets its contract: a window that is named leaves room for the kind of verdict beside it.
 -- Assumes nothing.
 use Prim.Native.Nat.{ℕ, _≤_}
-use mathlib.Core.Path.{_≡_, sym, ap, _∙_, subst}
+use mathlib.Core.Path.{sym, ap, subst}
 use native.Mathlib.Omega.{arith}
 use borrow.Author.Needs.{needs}
 use Rattle.closure.specs.Closing.{maxHorizon}

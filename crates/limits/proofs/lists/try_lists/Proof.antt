@@ -9,7 +9,6 @@ use lib.Seq.{length-take-le}
 use borrow.Author.Needs.{needs}
 use Rattle.limits.proofs.lists.try_lists.Statement.{statement}
 use Rattle.limits.proofs.lists.try_lists.Tie as tie
-use Rattle.io.proofs.write_all.Reads as write-all-reads
 
 part : (n x : ℕ) (xs : List ℕ) → xs ≡ replicate 257 x → n ≤ 257 → n ≡ length (take n xs)
 part n x xs e l = sym (length-take-le n xs (omega (arith, ap length e ∙ length-replicate 257 x)))

@@ -1,6 +1,6 @@
 -- `limits::numbers::digest` is safe: the sum stays below 2,147,483,648.
 -- Assumes nothing.
-use Prim.Native.Nat.{_-_, _<_, _%_, _+_, _*_}
+use Prim.Native.Nat.{_-_, _<_}
 use native.Mathlib.Omega.{arith}
 use native.Mathlib.Nat.{mod-lt}
 use borrow.Author.Needs.{needs}
