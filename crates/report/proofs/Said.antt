@@ -18,7 +18,6 @@ use Rattle.curves.specs.Questions.{AllYes, FirstNo, ask}
 use Rattle.curves.proofs.Asked.{no-parts}
 use Rattle.closure.specs.Closing as closure
 use Rattle.closure.specs.Theorems as closing
-use Rattle.closure.proofs.Said as closed
 use Rattle.closure.proofs.Given as given
 use Rattle.closure.proofs.Promised as promised
 use Rattle.csv.specs.Text.{Bytes, crlf, header}
