@@ -18,10 +18,7 @@
 extern "C" {
 #endif
 
-/*
- * What calgedze_close and calgedze_read answer: the refusal's number in the upper 32 bits, a value in the lower,
- * which is 0 on a refusal.
- */
+/* What calgedze_close and calgedze_read answer: a refusal's number in the upper 32 bits, or 0 there and a value in the lower. */
 typedef uint64_t calgedze_answer;
 
 #define CALGEDZE_REFUSAL(answer) ((uint32_t)((answer) >> 32))

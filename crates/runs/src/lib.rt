@@ -42,7 +42,7 @@ pub fn run(ceilings: &[u32], leasts: &[u32], upper: &mut [u32], lower: &mut [u32
     Ending::Unfit
 }
 
-// Whether rounds are run for these lists.
+// Whether rounds are run for these lists. A function of its own, since a way out is dear to check where lists are lent for writing.
 fn fits(ceilings: &[u32], leasts: &[u32], upper: &[u32], lower: &[u32]) -> bool
     ensures { λ r. ⌜ Tells r
         (Fit (pairOf (now (ceilings .entry)) (now (leasts .entry))) (pairOf (now (upper .entry)) (now (lower .entry)))) ⌝ }
