@@ -58,7 +58,7 @@ given-same-whole : (c e : Pair) → Equal c e → Same (pos 0) (given whole c) (
 given-same-whole c e q = rw (given-same whole c e q) (same-refl (pos 0) (given whole e))
 
 -- An uncrossed pair settles exactly where its whole numbers do.
-settled-given : (c : Pair) → ¬ Crossed cutOff c → Settled whole (given whole c) ↔ Settled cutOff c
+pub settled-given : (c : Pair) → ¬ Crossed cutOff c → Settled whole (given whole c) ↔ Settled cutOff c
 settled-given c n = ⊎-elim agree cross (round-agrees c)
   where
     agree : round whole (given whole c) ≡ given whole (round cutOff c) → Settled whole (given whole c) ↔ Settled cutOff c
@@ -103,7 +103,7 @@ module _ (p : Pair) where
       below-suc (λ j. ¬ Crossed cutOff (after cutOff j p)) n before
       (λ x. h n (le-refl (suc n)) (crossed-iff n (agree n before) .1 x)) k l
 
-  runs-cut : (n : ℕ) → Runs whole p n → Runs cutOff p n
+  pub runs-cut : (n : ℕ) → Runs whole p n → Runs cutOff p n
   runs-cut n r =
       let un : (k : ℕ) → k < n → ¬ Crossed cutOff (after cutOff k p) = uncrossed n (r .uncrossed) in
       record {

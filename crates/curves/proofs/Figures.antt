@@ -8,7 +8,7 @@ use native.Mathlib.Omega.{arith}
 use lib.ListN.{length, getD}
 use lib.Seq.{ext-getD}
 use Rattle.laws.specs.Ranges.{fold, table}
-use Rattle.laws.proofs.Best.{IsBest, fold-first, fold-each, fold-both}
+use Rattle.laws.proofs.Best.{IsBest, fold-holds, fold-first, fold-each}
 use Rattle.laws.proofs.Table.{length-table, getD-table, table-self, table-same}
 use Rattle.curves.specs.Pairs.{Curves, horizon, figure, Same, Pair, ceiling, least}
 use Rattle.curves.specs.Rounds.{Arithmetic, cutOff, newFigure, newUpper, newLower, round, given, after, upperAt, lowerAt, Crossed}
@@ -143,6 +143,20 @@ module _ (A : Arithmetic) where
   unfolding round
   round-lower c = figure-table (A .of 0) (newLower A c) (horizon c)
 
+  -- What holds of each candidate of one curve's new figure, and of the better of two where it holds of both, holds of the new figure.
+  pub new-holds
+      : (best : A .Number → A .Number → A .Number) (H : ℕ) (own other : ℕ → A .Number) (d : ℕ)
+      (P : A .Number → Type 0) → ((x y : A .Number) → P x → P y → P (best x y))
+      → P (own d)
+      → ((a : ℕ) → 1 ≤ a → a < d → P (A .plus (own a) (own (d - a))))
+      → ((t : ℕ) → 1 ≤ t → d + t ≤ H → P (A .minus (own (d + t)) (other t)))
+      → P (newFigure A best H own other d)
+  unfolding newFigure
+  new-holds best H own other d P both old plus minus =
+      fold-holds best P both _ _ (H - d)
+      (fold-holds best P both (own d) _ (d - 1) old (λ a u v. plus a u (omega arith)))
+      (λ t u v. minus t u (omega arith))
+
   -- One curve's new figure: as good as each candidate, and no better than what is as good as each.
   module _ (R : A .Number → A .Number → Type 0) (best : A .Number → A .Number → A .Number) (B : IsBest R best)
       (H : ℕ) (own other : ℕ → A .Number) (d : ℕ) where
@@ -170,8 +184,4 @@ module _ (A : Arithmetic) where
         → ((a : ℕ) → 1 ≤ a → a < d → R z (A .plus (own a) (own (d - a))))
         → ((t : ℕ) → 1 ≤ t → d + t ≤ H → R z (A .minus (own (d + t)) (other t)))
         → R z (newFigure A best H own other d)
-    unfolding newFigure
-    new-best z old plus minus =
-        fold-both R best B _ _ z (H - d)
-        (fold-both R best B (own d) _ z (d - 1) old (λ a u v. plus a u (omega arith)))
-        (λ t u v. minus t u (omega arith))
+    new-best z = new-holds best H own other d (R z) (B .both z)

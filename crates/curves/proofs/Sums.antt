@@ -2,7 +2,7 @@
 use Prim.Native.Nat.{ℕ, zero, suc, _+_, _≤_, _<_}
 use mathlib.Core.Path.{_≡_, refl, sym, ap}
 use mathlib.Core.List.{List, [], _∷_, _++_}
-use native.Mathlib.Nat.{add-zero, add-suc}
+use native.Mathlib.Nat.{le-refl, add-zero, add-suc}
 use native.Mathlib.Omega.{arith}
 use lib.ListN.{length, getD, List·getD-append}
 use Rattle.curves.specs.Streams.{sum, countsOf}
@@ -19,12 +19,15 @@ split s i a (suc b) =
 pub split-at : (s : ℕ → ℕ) (i a b d : ℕ) → a + b ≡ d → sum s i d ≡ sum s i a + sum s (i + a) b
 split-at s i a b d e = rw (sym e) (split s i a b)
 
--- Streams that agree on a window have one sum there.
-pub local : (s t : ℕ → ℕ) (i d : ℕ) → ((k : ℕ) → i ≤ k → k < i + d → s k ≡ t k) → sum s i d ≡ sum t i d
+-- Windows that agree count by count have one sum.
+pub alike : (s t : ℕ → ℕ) (i j d : ℕ) → ((k : ℕ) → k < d → s (i + k) ≡ t (j + k)) → sum s i d ≡ sum t j d
 unfolding sum
-local s t i zero h = refl
-local s t i (suc d) h =
-    omega (arith, local s t i d (λ k p q. h k p (omega arith)), h (i + d) (omega arith) (omega arith))
+alike s t i j zero h = refl
+alike s t i j (suc d) h = omega (arith, alike s t i j d (λ k l. h k (omega arith)), h d (le-refl (suc d)))
+
+-- So streams that agree on a window have one sum there.
+pub local : (s t : ℕ → ℕ) (i d : ℕ) → ((k : ℕ) → i ≤ k → k < i + d → s k ≡ t k) → sum s i d ≡ sum t i d
+local s t i d h = alike s t i i d (λ k l. h (i + k) (omega arith) (omega arith))
 
 -- A finite stream with one more count: the window of d ticks that ends there has that count and the d − 1 before it.
 pub sum-last : (xs : List ℕ) (x i d : ℕ) → i + suc d ≡ suc (length xs)

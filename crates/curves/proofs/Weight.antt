@@ -22,7 +22,7 @@ pub upper-falls : (c : Pair) (d : ℕ) → 1 ≤ d → d ≤ horizon c → ceili
 upper-falls c d p q =
     rw (round-upper cutOff c d p q) (new-old cutOff _≤_ min min-best (horizon c) (ceiling c) (least c) d)
 
-lower-rises : (c : Pair) (d : ℕ) → 1 ≤ d → d ≤ horizon c → least c d ≤ least (round cutOff c) d
+pub lower-rises : (c : Pair) (d : ℕ) → 1 ≤ d → d ≤ horizon c → least c d ≤ least (round cutOff c) d
 lower-rises c d p q =
     rw (round-lower cutOff c d p q) (new-old cutOff (λ x y. y ≤ x) max max-best (horizon c) (least c) (ceiling c) d)
 

@@ -1,12 +1,12 @@
 -- What is proved of pairs, streams and rounds, at any horizon and for any figures. `proofs/` proves exactly these statements.
-use Prim.Native.Nat.{ℕ, _≤_}
+use Prim.Native.Nat.{ℕ, _+_, _^_, _≤_}
 use mathlib.Core.Path.{_≡_}
 use mathlib.Core.List.{List}
 use mathlib.Core.Logic.{_↔_, _⊎_}
 use Rattle.curves.specs.Pairs.{Pair, Equal, horizon, slack}
 use Rattle.curves.specs.Conformance.{Conforms, Conforms∞}
 use Rattle.curves.specs.Ticks.{then, Range}
-use Rattle.curves.specs.Rounds.{whole, cutOff, after, HasAfter, Crossed, Arrives, Crosses, Causal}
+use Rattle.curves.specs.Rounds.{whole, cutOff, after, HasAfter, Crossed, Runs, Arrives, Crosses, Causal}
 
 -- The rounds of p end with a closure.
 abbrev pub Closes : Pair → Type 0
@@ -28,6 +28,10 @@ CrossesOnce = (p : Pair) (m n : ℕ) → Crosses whole p m → Crosses whole p n
 -- The bound on their count.
 abbrev pub RoundsWithinSlack : Type 0
 RoundsWithinSlack = (p q : Pair) (n : ℕ) → Arrives whole p n q → n ≤ slack p
+
+-- A bound that depends on the horizon alone, whether they arrive or cross.
+abbrev pub RoundsWithinLogarithm : Type 0
+RoundsWithinLogarithm = (p : Pair) (k n : ℕ) → horizon p ≤ 2 ^ k → Runs whole p n → n ≤ k + 1
 
 -- ---- 2. Rounds, one or any number, keep exactly the same unbounded conforming streams; where they cross, no stream conforms.
 abbrev pub RoundsKeepStreams : Type 0

@@ -35,6 +35,14 @@ fold-map m op op′ x f f′ (suc n) h =
     ap (λ y. op′ y (f′ (suc n))) (fold-map m op op′ x f f′ n (λ k p q. h k p (le-step q)))
     ∙ h (suc n) (omega arith) (le-refl (suc n)) (fold op x f n)
 
+-- What holds of each that is put together, and of two together where it holds of both, holds of all together.
+pub fold-holds {ℓ} : {A : Type ℓ} (op : A → A → A) (P : A → Type 0) → ((x y : A) → P x → P y → P (op x y))
+    → (x : A) (f : ℕ → A) (n : ℕ) → P x → ((k : ℕ) → 1 ≤ k → k ≤ n → P (f k)) → P (fold op x f n)
+unfolding fold
+fold-holds op P both x f zero p h = p
+fold-holds op P both x f (suc n) p h =
+    both _ _ (fold-holds op P both x f n p (λ k u v. h k u (le-step v))) (h (suc n) (omega arith) (le-refl (suc n)))
+
 -- `best` is the better of two in the order R, where R x y says that x is at least as good: at least as good as both, and no better
 -- than that.
 pub record IsBest {ℓ} {A : Type ℓ} (R : A → A → Type 0) (best : A → A → A) : Type ℓ where
@@ -81,10 +89,7 @@ module _ {ℓ} {A : Type ℓ} (R : A → A → Type 0) (best : A → A → A) (B
       (le-suc-iff .0 q)
 
   pub fold-both : (z : A) (n : ℕ) → R z x → ((k : ℕ) → 1 ≤ k → k ≤ n → R z (f k)) → R z (fold best x f n)
-  unfolding fold
-  fold-both z zero p h = p
-  fold-both z (suc n) p h =
-      B .both z _ _ (fold-both z n p (λ k u v. h k u (le-step v))) (h (suc n) (omega arith) (le-refl (suc n)))
+  fold-both z = fold-holds best (R z) (B .both z) x f
 
 -- Sums over a range, term by term: no larger, and equal only where every term is.
 module _ (f g : ℕ → ℕ) where

@@ -2,6 +2,7 @@
 pub mod Best
 pub mod Table
 pub mod Search
+pub mod Pigeonhole
 pub mod Tests
 pub mod Whole
 pub mod Writing

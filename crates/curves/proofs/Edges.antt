@@ -1,0 +1,59 @@
+-- Edges between the places 0 to H. Assumes nothing.
+use Prim.Native.Nat.{ℕ, zero, suc, _+_, _-_, _≤_}
+use mathlib.Core.Path.{_≡_, refl, ap, _∙_}
+use native.Mathlib.Decide.{decLe}
+use native.Mathlib.Omega.{arith}
+use Rattle.curves.specs.Pairs.{horizon, figure, Pair, ceiling, least}
+use Rattle.curves.proofs.Tightened.{Tightened}
+
+-- An edge from x to y costs the ceiling of the ticks that it goes up, less the least of the ticks that it goes down; one of the two is 0.
+abbrev pub rise : Pair → ℕ → ℕ → ℕ
+rise c x y = ceiling c (y - x)
+
+abbrev pub fall : Pair → ℕ → ℕ → ℕ
+fall c x y = least c (x - y)
+
+pub no-rise : (c : Pair) (x y : ℕ) → y ≤ x → rise c x y ≡ 0
+unfolding figure
+no-rise c x y l = let e : y - x ≡ 0 = omega arith in ap (ceiling c) e
+
+pub no-fall : (c : Pair) (x y : ℕ) → x ≤ y → fall c x y ≡ 0
+unfolding figure
+no-fall c x y l = let e : x - y ≡ 0 = omega arith in ap (least c) e
+
+module _ (c e : Pair) (t : Tightened c e) where
+  -- Up by a and down by b, which may leave the places between: one edge of e costs no more.
+  pub detour : (a b x y : ℕ) → a ≤ horizon c → b ≤ horizon c → x + a ≡ y + b
+      → rise e x y + least c b ≤ ceiling c a + fall e x y
+  detour a b x y p q s =
+      elim (decLe b a) [
+        | yes l ↦
+            let k : a - b ≡ y - x = omega arith in
+            let m : a - b + b ≡ a = omega arith in
+            omega (arith, t .upper-minus (a - b) b (omega arith), ap (ceiling e) k, ap (ceiling c) m)
+        | no l ↦
+            let k : b - a ≡ x - y = omega arith in
+            let m : b - a + a ≡ b = omega arith in
+            omega (arith, t .lower-minus (b - a) a (omega arith), ap (least e) k, ap (least c) m, no-rise e x y (omega arith))
+      ]
+
+  -- Two edges of c, one after the other: one edge of e costs no more.
+  pub triangle : (x y z : ℕ) → x ≤ horizon c → y ≤ horizon c → z ≤ horizon c
+      → rise e x z + (fall c x y + fall c y z) ≤ rise c x y + rise c y z + fall e x z
+  triangle x y z p q r =
+      elim (decLe x y) [
+        | yes l ↦
+            elim (decLe y z) [
+              | yes m ↦
+                  let k : y - x + (z - y) ≡ z - x = omega arith in
+                  omega (arith, t .upper-plus (y - x) (z - y) (omega arith), ap (ceiling e) k, no-fall c x y l, no-fall c y z m)
+              | no m ↦ omega (arith, detour (y - x) (y - z) x z (omega arith) (omega arith) (omega arith), no-fall c x y l)
+            ]
+        | no l ↦
+            elim (decLe y z) [
+              | yes m ↦ omega (arith, detour (z - y) (x - y) x z (omega arith) (omega arith) (omega arith), no-fall c y z m)
+              | no m ↦
+                  let k : x - y + (y - z) ≡ x - z = omega arith in
+                  omega (arith, t .lower-plus (x - y) (y - z) (omega arith), ap (least e) k, no-rise e x z (omega arith))
+            ]
+      ]
