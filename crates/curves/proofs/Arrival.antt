@@ -1,18 +1,21 @@
--- Theorem 1: the rounds of a pair arrive or cross, one of the two, once; and arrive within the pair's slack. Assumes nothing.
-use Prim.Native.Nat.{ℕ, zero, suc, _+_, _-_, _≤_, _<_}
+-- Theorem 1: the rounds of a pair arrive or cross, one of the two, once; arrive within the pair's slack; and end within the logarithm of its
+-- horizon (theorem 10). Assumes nothing.
+use Prim.Native.Nat.{ℕ, zero, suc, _+_, _-_, _^_, _≤_, _<_}
 use mathlib.Core.Path.{_≡_, sym, ap₂}
-use mathlib.Core.Logic.{_⊎_, inl, inr, ⊎-elim}
-use native.Mathlib.Nat.{le-refl}
+use mathlib.Core.Logic.{_⊎_, inl, inr, ⊎-elim, ⊎-map}
+use native.Mathlib.Nat.{le-refl, one-le-pow}
 use native.Mathlib.Omega.{arith}
 use native.Mathlib.Decide.{decLe, ℕ-discrete}
 use lib.IntN.{pos}
 use Rattle.laws.proofs.Best.{fold-ext}
 use Rattle.laws.proofs.Search.{every, below-suc}
 use Rattle.curves.specs.Pairs.{horizon, Pair, ceiling, least, Equal, slack}
-use Rattle.curves.specs.Rounds.{Arithmetic, cutOff, given, round, after, Crossed, Settled, Runs, Arrives, Crosses}
-use Rattle.curves.specs.Theorems.{Closes, ArrivesOrCrosses, NeverBoth, ArrivesOnce, CrossesOnce, RoundsWithinSlack}
+use Rattle.curves.specs.Rounds.{Arithmetic, whole, cutOff, given, round, after, Crossed, Settled, Runs, Arrives, Crosses}
+use Rattle.curves.specs.Theorems.{Closes, ArrivesOrCrosses, NeverBoth, ArrivesOnce, CrossesOnce}
+use Rattle.curves.specs.Theorems.{RoundsWithinSlack, EndsWithinLogarithm}
 use Rattle.curves.proofs.Figures.{round-horizon, same-sym, same-trans}
-use Rattle.curves.proofs.Weight.{weight, weight-falls, slack-falls}
+use Rattle.curves.proofs.Slack.{slack-falls}
+use Rattle.curves.proofs.Bound.{few-runs}
 use Rattle.curves.proofs.Agreement.{given-equal, same-given, cut-off-arrives, cut-off-crosses}
 
 -- ---- whether a pair's figures cross, and whether a round changes one, can be told
@@ -55,29 +58,43 @@ runs-more A p n r h s =
 pub runs-none : (A : Arithmetic) (p : Pair) → Runs A p 0
 runs-none A p = record { uncrossed = λ k l. absurd (omega arith); changes = λ k l. absurd (omega arith) }
 
--- The rounds of p end, one way or the other.
-abbrev Ends : Pair → Type 0
-Ends p = ((n : ℕ) × (q : Pair) × Arrives cutOff p n q) ⊎ ((n : ℕ) × Crosses cutOff p n)
+-- The rounds of p end, after at most m.
+abbrev Ends : Pair → ℕ → Type 0
+Ends p m = ((n : ℕ) × (q : Pair) × (n ≤ m) × Arrives whole p n q) ⊎ ((n : ℕ) × (n ≤ m) × Crosses whole p n)
 
-ends-from : (p : Pair) (k n : ℕ) → weight (after cutOff n p) < k → Runs cutOff p n → Ends p
+-- n rounds have been run, and as many as `left` may follow: more than are ever run.
+ends-from : (p : Pair) (k left n : ℕ) → horizon p ≤ 2 ^ k → k + 1 < n + left → Runs cutOff p n → Ends p (k + 1)
 unfolding after
-ends-from p zero n h r = absurd (omega arith)
-ends-from p (suc k) n h r =
+ends-from p k zero n h l r = absurd (omega (arith, few-runs p k n h r))
+ends-from p k (suc left) n h l r =
     let c : Pair = after cutOff n p in
+    let few : n ≤ k + 1 = few-runs p k n h r in
     ⊎-elim
     (λ un. ⊎-elim
-    (λ s. inl (n, c, record { runs = r; uncrossed = un; settled = s; figures = same-sym 0 _ _ (given-equal c) }))
-    (λ ns. ends-from p k (suc n) (omega (arith, weight-falls c un ns)) (runs-more cutOff p n r un ns))
+    (λ s.
+    inl (
+      n,
+      c,
+      few,
+      cut-off-arrives p n c .1
+          (record { runs = r; uncrossed = un; settled = s; figures = same-sym 0 _ _ (given-equal c) }),
+    ))
+    (λ ns. ends-from p k left (suc n) h (omega arith) (runs-more cutOff p n r un ns))
     (equal? (round cutOff c) c (round-horizon cutOff c)))
-    (λ x. inr (n, record { runs = r; crossed = x }))
+    (λ x. inr (n, few, cut-off-crosses p n .1 (record { runs = r; crossed = x })))
     (crossed? c)
+
+pub ends-within-logarithm : EndsWithinLogarithm
+ends-within-logarithm p k h = ends-from p k (k + 2) 0 h (omega arith) (runs-none cutOff p)
+
+-- Every horizon is at most some 2^k.
+below-power : (k : ℕ) → k ≤ 2 ^ k
+below-power zero = omega arith
+below-power (suc k) = omega (arith, below-power k, one-le-pow k 2 (omega arith))
 
 pub arrives-or-crosses : ArrivesOrCrosses
 arrives-or-crosses p =
-    ⊎-elim
-    (λ a. inl (a .0, a .1, cut-off-arrives p (a .0) (a .1) .1 (a .2)))
-    (λ x. inr (x .0, cut-off-crosses p (x .0) .1 (x .1)))
-    (ends-from p (suc (weight (after cutOff 0 p))) 0 (le-refl _) (runs-none cutOff p))
+    ⊎-map (λ a. (a .0, a .1, a .3)) (λ x. (x .0, x .2)) (ends-within-logarithm p (horizon p) (below-power (horizon p)))
 
 -- ---- once
 -- Numbers of rounds of which neither is before the other are one.
@@ -107,7 +124,7 @@ slack-left : (p : Pair) (n : ℕ) → Runs cutOff p n → ¬ Crossed cutOff (aft
 unfolding after
 slack-left p n r h zero l = omega (arith, slack-equal (given cutOff p) p (given-equal p))
 slack-left p n r h (suc k) l =
-    omega (arith, slack-left p n r h k (omega arith), slack-falls (after cutOff k p) (r .uncrossed k l) (r .changes k l) next)
+    omega (arith, slack-left p n r h k (omega arith), slack-falls (after cutOff k p) next (r .changes k l))
   where
     next : ¬ Crossed cutOff (after cutOff (suc k) p)
     next = below-suc (λ j. ¬ Crossed cutOff (after cutOff j p)) n (r .uncrossed) h (suc k) (omega arith)

@@ -7,8 +7,7 @@ use Rattle.laws.proofs.Best.{min-best, max-best}
 use Rattle.curves.specs.Pairs.{horizon, figure, Pair, ceiling, least}
 use Rattle.curves.specs.Rounds.{cutOff, round, newUpper, newLower, Crossed, Settled, Causal}
 use Rattle.curves.proofs.Figures.{round-horizon, round-upper, round-lower, new-best, same-crossed}
-use Rattle.curves.proofs.Weight.{upper-falls, lower-rises}
-use Rattle.curves.proofs.Tightened.{Tightened, tightened}
+use Rattle.curves.proofs.Tightened.{upper-falls, lower-rises, Tightened, tightened}
 use Rattle.curves.proofs.Agreement.{crossed-given, settled-given}
 
 abbrev pub Closed : Pair → Type 0
@@ -61,7 +60,7 @@ settles p t =
         new-best cutOff _≤_ min min-best (horizon p) (ceiling p) (least p) d (ceiling p d) (le-refl _)
         (λ a l m. rw (whole a d m) at (t .upper-plus a (d - a) (omega arith)))
         (λ b l m. omega (arith, t .upper-minus d b m)) in
-        omega (arith, upper-falls p d u v, round-upper cutOff p d u v)
+        omega (arith, upper-falls p d v, round-upper cutOff p d u v)
 
     lower : (d : ℕ) → 1 ≤ d → d ≤ horizon p → least (round cutOff p) d ≡ least p d
     lower d u v =
@@ -69,4 +68,4 @@ settles p t =
         new-best cutOff (λ x y. y ≤ x) max max-best (horizon p) (least p) (ceiling p) d (least p d) (le-refl _)
         (λ a l m. rw (whole a d m) at (t .lower-plus a (d - a) (omega arith)))
         (λ b l m. omega (arith, t .lower-minus d b m)) in
-        omega (arith, lower-rises p d u v, round-lower cutOff p d u v)
+        omega (arith, lower-rises p d v, round-lower cutOff p d u v)

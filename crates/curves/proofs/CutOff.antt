@@ -15,7 +15,7 @@ use Rattle.curves.specs.Pairs.{Curves, horizon, Pair, ceiling, least}
 use Rattle.curves.specs.Rounds.{whole, cutOff, given, round, newFigure, newUpper, newLower, Crossed, upperAt, lowerAt}
 use Rattle.curves.proofs.Figures.{given-horizon, given-upper, given-lower, round-horizon, round-upper, round-lower}
 use Rattle.curves.proofs.Figures.{new-old, new-plus}
-use Rattle.curves.proofs.Weight.{upper-falls}
+use Rattle.curves.proofs.Tightened.{upper-falls}
 
 -- A new figure of one curve, exact and cut off, where every step of its fold agrees.
 module _ (best′ : ℤ → ℤ → ℤ) (best : ℕ → ℕ → ℕ) (H : ℕ) (own other : ℕ → ℕ) (own′ other′ : ℕ → ℤ)
@@ -92,7 +92,7 @@ module _ (c : Pair) where
           ))
 
       cut : ceiling (round cutOff c) (d + t) < least (round cutOff c) (d + t)
-      cut = omega (arith, least-high, upper-falls c (d + t) w q)
+      cut = omega (arith, least-high, upper-falls c (d + t) q)
 
       ceiling-low : newUpper whole exact (d + t) ≤ℤ pos (ceiling c (d + t))
       ceiling-low =

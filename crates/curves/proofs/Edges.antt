@@ -1,12 +1,13 @@
--- Edges between the places 0 to H. Assumes nothing.
-use Prim.Native.Nat.{ℕ, zero, suc, _+_, _-_, _≤_}
-use mathlib.Core.Path.{_≡_, refl, ap, _∙_}
+-- A pair as a graph: the places 0 to H, and an edge from each to each. Assumes nothing.
+use Prim.Native.Nat.{ℕ, _+_, _-_, _≤_}
+use mathlib.Core.Path.{_≡_, ap}
 use native.Mathlib.Decide.{decLe}
 use native.Mathlib.Omega.{arith}
 use Rattle.curves.specs.Pairs.{horizon, figure, Pair, ceiling, least}
 use Rattle.curves.proofs.Tightened.{Tightened}
 
--- An edge from x to y costs the ceiling of the ticks that it goes up, less the least of the ticks that it goes down; one of the two is 0.
+-- The edge from x to y costs the ceiling of the ticks that it goes up, less the least of those that it goes down. One of the two is 0.
+-- It bounds how far the count of messages up to tick y of a stream can be above that up to tick x.
 abbrev pub rise : Pair → ℕ → ℕ → ℕ
 rise c x y = ceiling c (y - x)
 
@@ -22,7 +23,7 @@ unfolding figure
 no-fall c x y l = let e : x - y ≡ 0 = omega arith in ap (least c) e
 
 module _ (c e : Pair) (t : Tightened c e) where
-  -- Up by a and down by b, which may leave the places between: one edge of e costs no more.
+  -- Up by a and down by b, by way of a place that may lie past H: one edge of e costs no more.
   pub detour : (a b x y : ℕ) → a ≤ horizon c → b ≤ horizon c → x + a ≡ y + b
       → rise e x y + least c b ≤ ceiling c a + fall e x y
   detour a b x y p q s =
@@ -37,7 +38,7 @@ module _ (c e : Pair) (t : Tightened c e) where
             omega (arith, t .lower-minus (b - a) a (omega arith), ap (least e) k, ap (least c) m, no-rise e x y (omega arith))
       ]
 
-  -- Two edges of c, one after the other: one edge of e costs no more.
+  -- By way of any place: one edge of e costs no more than two of c.
   pub triangle : (x y z : ℕ) → x ≤ horizon c → y ≤ horizon c → z ≤ horizon c
       → rise e x z + (fall c x y + fall c y z) ≤ rise c x y + rise c y z + fall e x z
   triangle x y z p q r =

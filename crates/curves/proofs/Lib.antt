@@ -1,22 +1,22 @@
 -- The theory of curves, at any horizon and for any figures (natural numbers). Assumes nothing.
 pub mod Figures
-pub mod Weight
-pub mod Sums
 pub mod Tightened
-pub mod Edges
-pub mod Walks
-pub mod Loops
-pub mod Steps
-pub mod Ways
+pub mod Slack
+pub mod Sums
 pub mod Closed
 pub mod NextTick
 pub mod Verdicts
 pub mod Extension
 pub mod Followed
-pub mod Bound
 pub mod Kept
 pub mod CutOff
 pub mod Agreement
+mod Edges
+mod Walks
+mod Loops
+mod Combinations
+mod Walkable
+pub mod Bound
 pub mod Arrival
 pub mod Closure
 pub mod Asked

@@ -1,22 +1,20 @@
--- Walks without loops. Assumes nothing.
+-- A walk of more than H edges comes to some place twice, and is no dearer without the loop. Assumes nothing.
 use Prim.Native.Nat.{ℕ, zero, suc, _+_, _-_, _^_, _≤_, _<_}
 use mathlib.Core.Path.{_≡_, refl, sym, ap, ap₂, _∙_}
 use mathlib.Core.Bool.{cond}
 use native.Mathlib.Nat.{zero-add, one-le-pow}
-use native.Mathlib.Numerals.{add-one}
 use native.Mathlib.Decide.{decLe, decLt}
 use native.Mathlib.Omega.{arith}
 use borrow.Author.Tests.{lt-ltb, le-ltb}
 use lib.Dec.{ltb}
 use Rattle.laws.proofs.Pigeonhole.{Repeats, pigeonhole}
 use Rattle.curves.specs.Streams.{sum}
-use Rattle.curves.specs.Pairs.{horizon, Pair, ceiling, least}
-use Rattle.curves.proofs.Sums.{split, split-at, alike}
-use Rattle.curves.proofs.Tightened.{Tightened}
+use Rattle.curves.specs.Pairs.{Pair}
+use Rattle.curves.proofs.Sums.{split, alike}
 use Rattle.curves.proofs.Edges.{rise, fall}
 use Rattle.curves.proofs.Walks.{along, Levels, loop}
 
--- ---- a place before a walk
+-- ---- a place in front of a walk
 first : ℕ → (ℕ → ℕ) → ℕ → ℕ
 first x at zero = x
 first x at (suc t) = at t
@@ -28,7 +26,7 @@ along-first w x at zero = omega arith
 along-first w x at (suc n) =
     omega (arith, along-first w x at n, ap (along w (first x at)) (zero-add (suc n)), ap (along w at) (zero-add n))
 
--- ---- a walk that leaves out d edges, from the i-th on, which lead back
+-- ---- a walk without d of its edges, those that follow the first i and lead back
 module _ (at : ℕ → ℕ) (i d : ℕ) (back : at (i + d) ≡ at i) where
   without : ℕ → ℕ
   without t = at (cond (ltb t i) t (t + d))
@@ -55,13 +53,14 @@ module _ (at : ℕ → ℕ) (i d : ℕ) (back : at (i + d) ≡ at i) where
         rw (zero-add i) at (split (along w without) 0 i m),
         alike (along w without) (along w at) 0 0 i
             (λ k l. ap₂ w (without-before (0 + k) (omega arith)) (without-before (suc (0 + k)) (omega arith))),
-        alike (along w without) (along w at) i (i + d) m (λ k l. ap₂ w (after (i + k) (i + d + k) (omega arith) (omega arith)) (after (suc (i + k)) (suc (i + d + k)) (omega arith) (omega arith))),
+        alike (along w without) (along w at) i (i + d) m
+            (λ k l. ap₂ w (after (i + k) _ (omega arith) (omega arith)) (after (suc (i + k)) _ (omega arith) (omega arith))),
       )
     where
       after : (t s : ℕ) → i ≤ t → t + d ≡ s → without t ≡ at s
       after t s l e = without-after t l ∙ ap at e
 
--- A walk of n edges between the places 0 to H, from x to z, which costs at most u less l.
+-- A walk of n edges between the places 0 to H, from x to z, that costs at most u less l.
 pub record Walk (H : ℕ) (c : Pair) (n x z u l : ℕ) : Type 0 where
   pub at : ℕ → ℕ
   pub inside : (t : ℕ) → at t ≤ H
@@ -95,15 +94,16 @@ longer H c n x y z u l U L h e w =
     inside (suc t) = w .inside t
 
 -- A walk of at most H edges.
-abbrev pub Way : ℕ → Pair → ℕ → ℕ → ℕ → ℕ → Type 0
-Way H c x z u l = (n : ℕ) × (n ≤ H) × Walk H c n x z u l
+abbrev pub ShortWalk : ℕ → Pair → ℕ → ℕ → ℕ → ℕ → Type 0
+ShortWalk H c x z u l = (n : ℕ) × (n ≤ H) × Walk H c n x z u l
 
-pub stay : (H : ℕ) (c : Pair) (x z : ℕ) → x ≤ H → x ≡ z → Way H c x z 0 0
+-- Of no edge.
+pub stay : (H : ℕ) (c : Pair) (x z : ℕ) → x ≤ H → x ≡ z → ShortWalk H c x z 0 0
 unfolding sum
 stay H c x z h e = (0, omega arith, record { at = λ t. x; inside = λ t. h; from = refl; to = e; cost = omega arith })
 
 module _ (H k : ℕ) (c : ℕ → Pair) (levels : Levels H k c) where
-  -- A loop is left out: i edges lead to it, d are its own, and m follow.
+  -- i edges lead to a loop, d are its own, and m follow it.
   unlooped : (i d m n x z u l : ℕ) → i + (d + m) ≡ n → d ≤ 2 ^ suc k → (w : Walk H (c 0) n x z u l) → w .at (i + d) ≡ w .at i
       → Walk H (c 0) (i + m) x z u l
   unfolding without
@@ -124,28 +124,29 @@ module _ (H k : ℕ) (c : ℕ → Pair) (levels : Levels H k c) where
             );
       }
 
-  -- With one edge more there is one: H + 1 edges lead to some place twice.
-  pub ahead : (x y z u l U L : ℕ) → x ≤ H → rise (c 0) x y + u + L ≤ U + (fall (c 0) x y + l) → Way H (c 0) y z u l → Way H (c 0) x z U L
-  ahead x y z u l U L h e way =
+  -- One edge in front of a short walk. H + 1 edges come to H + 2 places, two of which are one.
+  pub ahead : (x y z u l U L : ℕ) → x ≤ H → rise (c 0) x y + u + L ≤ U + (fall (c 0) x y + l)
+      → ShortWalk H (c 0) y z u l → ShortWalk H (c 0) x z U L
+  ahead x y z u l U L h e short =
       elim (decLe (suc n) H) [
         | yes m ↦ (suc n, m, w)
         | no m ↦ unloop (pigeonhole n (w .at) (λ i b. omega (arith, w .inside i)))
       ]
     where
       n : ℕ
-      n = way .0
+      n = short .0
 
       w : Walk H (c 0) (suc n) x z U L
-      w = longer H (c 0) n x y z u l U L h e (way .2)
+      w = longer H (c 0) n x y z u l U L h e (short .2)
 
-      unloop : Repeats (w .at) (suc n) → Way H (c 0) x z U L
+      unloop : Repeats (w .at) (suc n) → ShortWalk H (c 0) x z U L
       unloop r =
           let around : r .first + (r .second - r .first) ≡ r .second = omega (arith, r .before) in (
             r .first + (suc n - r .second),
-            omega (arith, r .before, r .within, way .1),
+            omega (arith, r .before, r .within, short .1),
             unlooped (r .first) (r .second - r .first) (suc n - r .second) (suc n) x z U L
                 (omega (arith, r .before, r .within))
-                (omega (arith, r .within, way .1, levels .short, one-le-pow k 2 (omega arith)))
+                (omega (arith, r .within, short .1, levels .short, one-le-pow k 2 (omega arith)))
                 w
                 (ap (w .at) around ∙ sym (r .same)),
           )

@@ -29,10 +29,6 @@ CrossesOnce = (p : Pair) (m n : ℕ) → Crosses whole p m → Crosses whole p n
 abbrev pub RoundsWithinSlack : Type 0
 RoundsWithinSlack = (p q : Pair) (n : ℕ) → Arrives whole p n q → n ≤ slack p
 
--- A bound that depends on the horizon alone, whether they arrive or cross.
-abbrev pub RoundsWithinLogarithm : Type 0
-RoundsWithinLogarithm = (p : Pair) (k n : ℕ) → horizon p ≤ 2 ^ k → Runs whole p n → n ≤ k + 1
-
 -- ---- 2. Rounds, one or any number, keep exactly the same unbounded conforming streams; where they cross, no stream conforms.
 abbrev pub RoundsKeepStreams : Type 0
 RoundsKeepStreams = (p q : Pair) (n : ℕ) → HasAfter whole n p q → (s : ℕ → ℕ) → Conforms∞ p s ↔ Conforms∞ q s
@@ -62,3 +58,12 @@ abbrev pub OneMoreTick : Type 0
 OneMoreTick =
     (p : Pair) (xs : List ℕ) → 1 ≤ horizon p → Causal p → Conforms p xs
     → (r : Range p xs) × ((x : ℕ) → Conforms p (then xs x) ↔ ((r .lo ≤ x) × (x ≤ r .hi)))
+
+-- ---- 10. Whatever the figures: where the horizon is at most 2^k, no more than k + 1 rounds are run, and by then they arrive or cross.
+abbrev pub RunsWithinLogarithm : Type 0
+RunsWithinLogarithm = (p : Pair) (k n : ℕ) → horizon p ≤ 2 ^ k → Runs whole p n → n ≤ k + 1
+
+abbrev pub EndsWithinLogarithm : Type 0
+EndsWithinLogarithm =
+    (p : Pair) (k : ℕ) → horizon p ≤ 2 ^ k
+    → ((n : ℕ) × (q : Pair) × (n ≤ k + 1) × Arrives whole p n q) ⊎ ((n : ℕ) × (n ≤ k + 1) × Crosses whole p n)

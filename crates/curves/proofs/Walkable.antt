@@ -1,4 +1,5 @@
--- Steps in any order can be taken between the places 0 to H. Assumes nothing.
+-- Whatever a combination leads by way of, it can be walked between the places 0 to H; so no combination is better than the figures of the
+-- last of the pairs. Assumes nothing.
 use Prim.Native.Nat.{ℕ, zero, suc, _+_, _-_, _≤_}
 use mathlib.Core.Path.{_≡_}
 use mathlib.Core.List.{List, [], _∷_}
@@ -10,14 +11,14 @@ use Rattle.curves.specs.Pairs.{horizon, figure, Pair, ceiling, least}
 use Rattle.curves.proofs.Tightened.{Tightened}
 use Rattle.curves.proofs.Closed.{Closed}
 use Rattle.curves.proofs.Edges.{rise, fall, no-rise, no-fall, detour}
-use Rattle.curves.proofs.Walks.{Levels, shortens}
-use Rattle.curves.proofs.Loops.{Way, stay, ahead}
-use Rattle.curves.proofs.Steps.{total, Steps, joined, Made}
+use Rattle.curves.proofs.Walks.{Levels, short-cut}
+use Rattle.curves.proofs.Loops.{ShortWalk, stay, ahead}
+use Rattle.curves.proofs.Combinations.{total, Combination, together, Combined}
 
 module _ (H k : ℕ) (o : Pair) (c : ℕ → Pair) (levels : Levels H k c) (same : horizon o ≡ H) (tight : Tightened o (c 0)) where
   -- Up by a and down by b at once.
   move : (a b x y z u l U L : ℕ) → a ≤ H → b ≤ H → x ≤ H → x + a ≡ y + b → ceiling o a + u + L ≤ U + (least o b + l)
-      → Way H (c 0) y z u l → Way H (c 0) x z U L
+      → ShortWalk H (c 0) y z u l → ShortWalk H (c 0) x z U L
   move a b x y z u l U L p q r e h =
       ahead H k c levels x y z u l U L r (omega (arith, detour o (c 0) tight a b x y (rw same p) (rw same q) e))
 
@@ -25,7 +26,7 @@ module _ (H k : ℕ) (o : Pair) (c : ℕ → Pair) (levels : Levels H k c) (same
   Taken : List ℕ → List ℕ → Type 0
   Taken ups downs =
       Each (λ a. a ≤ H) ups → Each (λ b. b ≤ H) downs → (x z : ℕ) → x ≤ H → z ≤ H
-      → x + total (λ a. a) ups ≡ z + total (λ b. b) downs → Way H (c 0) x z (total (ceiling o) ups) (total (least o) downs)
+      → x + total (λ a. a) ups ≡ z + total (λ b. b) downs → ShortWalk H (c 0) x z (total (ceiling o) ups) (total (least o) downs)
 
   only-down : (downs : List ℕ) → Taken [] downs
   unfolding Taken total figure
@@ -61,7 +62,7 @@ module _ (H k : ℕ) (o : Pair) (c : ℕ → Pair) (levels : Levels H k c) (same
   taken (a ∷ ups) = up-or-down a ups (taken ups)
 
   -- So an edge of the k-th pair costs no more than any steps with the figures of o.
-  edge : (x z u l : ℕ) → x ≤ H → z ≤ H → Steps H o x z u l → rise (c k) x z + l ≤ u + fall (c k) x z
+  edge : (x z u l : ℕ) → x ≤ H → z ≤ H → Combination H o x z u l → rise (c k) x z + l ≤ u + fall (c k) x z
   unfolding Taken
   edge x z u l p q s =
       let (n, few, w) = taken (s .ups) (s .downs) (s .ups-fit) (s .downs-fit) x z p q (s .lead) in
@@ -69,17 +70,17 @@ module _ (H k : ℕ) (o : Pair) (c : ℕ → Pair) (levels : Levels H k c) (same
         arith,
         s .cost,
         w .cost,
-        rw (zero-add n, w .from, w .to) at (shortens H k c levels (w .at) (w .inside) k 0 n (le-refl k) (omega (arith, levels .short))),
+        rw (zero-add n, w .from, w .to) at (short-cut H k c levels (w .at) (w .inside) k 0 n (le-refl k) (omega (arith, levels .short))),
       )
 
-  most : (d u l : ℕ) → d ≤ H → Steps H o 0 d u l → ceiling (c k) d + l ≤ u
+  most : (d u l : ℕ) → d ≤ H → Combination H o 0 d u l → ceiling (c k) d + l ≤ u
   most d u l h s = omega (arith, rw (sub-zero d) at (edge 0 d u l (omega arith) h s), no-fall (c k) 0 d (omega arith))
 
-  fewest : (d u l : ℕ) → d ≤ H → Steps H o d 0 u l → l ≤ u + least (c k) d
+  fewest : (d u l : ℕ) → d ≤ H → Combination H o d 0 u l → l ≤ u + least (c k) d
   fewest d u l h s = omega (arith, rw (sub-zero d) at (edge d 0 u l h (omega arith) s), no-rise (c k) d 0 (omega arith))
 
   -- What two figures make together is the cost of steps too.
-  pub closed-last : Made H o (c k) → Closed (c k)
+  pub closed-last : Combined H o (c k) → Closed (c k)
   closed-last m =
       let within : (d : ℕ) → d ≤ horizon (c k) → d ≤ H = λ d w. rw (levels .horizons k) at w in
       record {
@@ -88,24 +89,24 @@ module _ (H k : ℕ) (o : Pair) (c : ℕ → Pair) (levels : Levels H k c) (same
             omega (
               arith,
               most (a + b) (ceiling (c k) a + ceiling (c k) b) 0 h
-                  (joined H o (m a (omega arith) .0) (m b (omega arith) .0) (omega arith) (omega arith)),
+                  (together H o (m a (omega arith) .0) (m b (omega arith) .0) (omega arith) (omega arith)),
             );
         lower-plus = λ a b w.
             let h : a + b ≤ H = within (a + b) w in
             omega (
               arith,
               fewest (a + b) 0 (least (c k) a + least (c k) b) h
-                  (joined H o (m a (omega arith) .1) (m b (omega arith) .1) (omega arith) (omega arith)),
+                  (together H o (m a (omega arith) .1) (m b (omega arith) .1) (omega arith) (omega arith)),
             );
         upper-minus = λ a b w.
             let h : a + b ≤ H = within (a + b) w in
             most a (ceiling (c k) (a + b)) (least (c k) b) (omega arith)
-            (joined H o (m (a + b) h .0) (m b (omega arith) .1) (omega arith) (omega arith));
+            (together H o (m (a + b) h .0) (m b (omega arith) .1) (omega arith) (omega arith));
         lower-minus = λ a b w.
             let h : a + b ≤ H = within (a + b) w in
             omega (
               arith,
               fewest a (ceiling (c k) b) (least (c k) (a + b)) (omega arith)
-                  (joined H o (m (a + b) h .1) (m b (omega arith) .0) (omega arith) (omega arith)),
+                  (together H o (m (a + b) h .1) (m b (omega arith) .0) (omega arith) (omega arith)),
             );
       }
