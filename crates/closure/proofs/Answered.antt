@@ -73,11 +73,11 @@ module _ (p found : Pair) where
     ending-is (Arrived n) (f, a) =
         let q : Pair = pairOf xs ys in
         sym (closed-is p found n q (passes f) (cut-off-arrives p n q .1 a) ∙ ap (answer (Closed n)) whole-lists)
-    ending-is Crossed (f, x, e) =
+    ending-is (Crossed n) (f, x, e) =
         ap (refused 5) (as-found e) ∙ sym (refused-is p found 5 (fifth p found (passes f) none))
       where
-        none : ¬ ((n : ℕ) × (q : Pair) × Arrives whole p n q)
-        none a = never-both p (a .1) (a .0) (x .0) (a .2) (cut-off-crosses p (x .0) .1 (x .1))
+        none : ¬ ((m : ℕ) × (q : Pair) × Arrives whole p m q)
+        none a = never-both p (a .1) (a .0) n (a .2) (cut-off-crosses p n .1 x)
     ending-is Unfit (n, e) =
         ap (refused 4) (as-found e)
         ∙ sym (refused-is p found 4 (inr (y₁, inr (y₂, inr (y₃, inl (refl, λ y₄. n (fit y₄)))))))

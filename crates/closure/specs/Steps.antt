@@ -7,5 +7,5 @@ use Rattle.closure.specs.declared.Closing.the-variants.{Closed, NoClosur
 -- The answer to lists that pass questions 1 to 3.
 abbrev pub closingFor : Ending → Closing
 closingFor (Arrived n) = Closed n
-closingFor Crossed = NoClosure
+closingFor (Crossed n) = NoClosure
 closingFor Unfit = FigureLimit

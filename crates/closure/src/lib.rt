@@ -57,7 +57,7 @@ fn closing_for(ending: Ending) -> Closing
 {
     match ending {
         Ending::Arrived { rounds } => Closing::Closed { rounds },
-        Ending::Crossed => Closing::NoClosure,
+        Ending::Crossed { rounds: _ } => Closing::NoClosure,
         Ending::Unfit => Closing::FigureLimit,
     }
 }

@@ -2,13 +2,16 @@
 use mathlib.Core.Path.{_≡_, refl}
 use mathlib.Core.List.{[], _∷_}
 use mathlib.Core.Logic.{Dec·and}
-use native.Mathlib.Decide.{decLe, decLt}
+use native.Mathlib.Decide.{decLe, decLt, ℕ-discrete}
 use lib.IntN.{pos, negsuc}
 use Rattle.laws.specs.Ranges.{fold, table}
+use Rattle.laws.proofs.Search.{every}
 use Rattle.curves.specs.Streams.{sum, countsOf}
 use Rattle.curves.specs.Pairs.{Pair, pairOf, figure, ceiling, slack}
 use Rattle.curves.specs.Ticks.{newest, passed, tooMany, tooFew}
-use Rattle.curves.specs.Rounds.{whole, cutOff, newFigure, round, given, after}
+use Rattle.curves.specs.Rounds.{whole, cutOff, newFigure, round, given, after, Arrives}
+use Rattle.curves.proofs.Arrival.{crossed?, equal?}
+use Rattle.curves.proofs.Computed.{left?, same?, runs?, arrives?, arrives-computed}
 use Rattle.curves.proofs.Verdicts.{inside?, judged?, find, turned-down, verdict?}
 
 -- The pair of the published triples, and one whose first round has a negative ceiling.
@@ -50,6 +53,15 @@ published-first = refl
 published-closed : after whole 4 published ≡ given whole (pairOf (1 ∷ 2 ∷ 3 ∷ 4 ∷ 5 ∷ []) (1 ∷ 2 ∷ 3 ∷ 4 ∷ 5 ∷ []))
 unfolding after given round newFigure fold table figure
 published-closed = refl
+
+-- ---- as many rounds as a pair can take: at a horizon of 3, which is at most 2^2, and at one of 5, which is at most 2^3
+three-rounds : Arrives whole (pairOf (2 ∷ 2 ∷ 3 ∷ []) (0 ∷ 2 ∷ 0 ∷ [])) 3 (pairOf (1 ∷ 2 ∷ 3 ∷ []) (1 ∷ 2 ∷ 3 ∷ []))
+unfolding arrives? runs? left? same? crossed? equal? every decLe ℕ-discrete after given round newFigure fold table figure
+three-rounds = arrives-computed _ 3 _ tt
+
+four-rounds : Arrives whole published 4 (pairOf (1 ∷ 2 ∷ 3 ∷ 4 ∷ 5 ∷ []) (1 ∷ 2 ∷ 3 ∷ 4 ∷ 5 ∷ []))
+unfolding arrives? runs? left? same? crossed? equal? every decLe ℕ-discrete after given round newFigure fold table figure
+four-rounds = arrives-computed published 4 _ tt
 
 -- ---- the newest tick
 newest-two : newest 2 (1 ∷ 2 ∷ 3 ∷ []) ≡ 2 ∷ 3 ∷ []

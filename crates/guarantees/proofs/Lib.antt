@@ -4,5 +4,6 @@ pub mod Held
 pub mod Monitoring
 pub mod Generating
 pub mod NeverStuck
+pub mod Cost
 pub mod Marked
 pub mod ReadBack

@@ -2,5 +2,6 @@
 pub mod Total
 pub mod Exact
 pub mod NeverStuck
+pub mod Cost
 pub mod Marked
 pub mod ReadBack

@@ -78,8 +78,9 @@ pub delivered
     : (s : Stop) (n : ℕ) (held found left : Pair) → s ≡ Settled n → left ≡ held → Delivered s held found (Arrived n) left
 delivered s n held found left k e = rw k (refl, e)
 
-pub undelivered : (s : Stop) (held found left : Pair) → s ≡ Stop.Crossed → left ≡ found → Delivered s held found Ending.Crossed left
-undelivered s held found left k e = rw k (refl, e)
+pub undelivered
+    : (s : Stop) (n : ℕ) (held found left : Pair) → s ≡ Stop.Crossed n → left ≡ found → Delivered s held found (Ending.Crossed n) left
+undelivered s n held found left k e = rw k (refl, e)
 
 -- The rounds of p stopped with the pair held, which is then delivered.
 pub ended
@@ -87,8 +88,7 @@ pub ended
     → Fit p found → p′ ≡ p → Stopped p′ s held → Delivered s held found r left → Ended p r found left
 ended p p′ held found left (Settled n) r fit k a d =
     rw (d .0) (fit, subst₂ (λ (a b : Pair). Arrives cutOff a n b) k (sym (d .1)) a)
-ended p p′ held found left Stop.Crossed r fit k x d =
-    rw (d .0) (fit, (x .0, subst (λ (a : Pair). Crosses cutOff a (x .0)) k (x .1)), d .1)
+ended p p′ held found left (Stop.Crossed n) r fit k x d = rw (d .0) (fit, subst (λ (a : Pair). Crosses cutOff a n) k x, d .1)
 
 pub same-pairs : (us ls xs ys : List ℕ) → us ≡ xs → ls ≡ ys → pairOf us ls ≡ pairOf xs ys
 same-pairs us ls xs ys e f = λ i. record { upper = e i; lower = f i }

@@ -1,20 +1,18 @@
--- What the loop over the rounds holds: how far they have come, and that there are fewer of them than a u32 counts.
+-- What the loop over the rounds holds: how far they have come, which is never further than nine.
 -- Assumes nothing.
-use Prim.Native.Nat.{ℕ, zero, suc, _+_, _-_, _*_, _≤_, _<_}
+use Prim.Native.Nat.{ℕ, _+_, _≤_}
 use mathlib.Core.Path.{_≡_, sym, ap, _∙_, subst}
 use mathlib.Core.Bool.{Bool, true, false}
-use native.Mathlib.Nat.{le-refl, le-step, suc-mul}
 use native.Mathlib.Numerals.{add-one}
 use native.Mathlib.Omega.{arith}
 use borrow.Author.Count.{below-none, below-more}
 use lib.ListN.{length}
-use Rattle.laws.specs.Ranges.{fold}
-use Rattle.curves.specs.Pairs.{Pair, Same, horizon, ceiling, least}
+use Rattle.curves.specs.Pairs.{Pair, Same, horizon}
 use Rattle.curves.specs.Rounds.{cutOff, round, Crossed, Settled, after, Runs, Arrives, Crosses}
 use Rattle.curves.proofs.Figures.{given-self, round-horizon, round-full, full-same, same-refl}
-use Rattle.curves.proofs.Weight.{below, upper-falls, weight, weight-falls}
-use Rattle.bounds.specs.Bounds.{figureLimit, Bounded}
-use Rattle.bounds.specs.Bounds.{maxHorizon}
+use Rattle.curves.proofs.Tightened.{below, upper-falls}
+use Rattle.curves.proofs.Bound.{few-runs}
+use Rattle.bounds.specs.Bounds.{maxHorizon, Bounded}
 use Rattle.runs.specs.Steps.{Advanced}
 use Rattle.laws.proofs.Tests.{either-true, either-false}
 
@@ -27,24 +25,11 @@ as-same {c} {e} h = rw h (same-refl 0 e)
 
 -- No least is above its ceiling, so the leasts are bounded as the ceilings are.
 pub lower-bounded : (c : Pair) → Even c → ¬ Crossed cutOff c → Bounded (c .upper) → Bounded (c .lower)
-lower-bounded c e n b d u v = omega (arith, below c n d u (omega arith), b d u (omega arith))
+lower-bounded c e n b d u v = omega (arith, below c n d (omega arith), b d u (omega arith))
 
 round-bounded : (c : Pair) → Bounded (c .upper) → Bounded (round cutOff c .upper)
 round-bounded c b d u v =
-    let within : d ≤ horizon c = omega (arith, round-horizon cutOff c) in omega (arith, upper-falls c d u within, b d u within)
-
-sum-limit : (f : ℕ → ℕ) (k n : ℕ) → ((d : ℕ) → 1 ≤ d → d ≤ n → f d ≤ k) → fold _+_ 0 f n ≤ n * k
-unfolding fold
-sum-limit f k zero h = omega arith
-sum-limit f k (suc n) h =
-    omega (arith, suc-mul n k, sum-limit f k n (λ d u v. h d u (le-step v)), h (suc n) (omega arith) (le-refl (suc n)))
-
-pub weight-limit : (c : Pair) → horizon c ≤ maxHorizon → Bounded (c .upper) → weight c ≤ maxHorizon * (figureLimit + 1)
-weight-limit c h b =
-    omega (
-      arith,
-      sum-limit (λ d. ceiling c d + 1 - least c d) (figureLimit + 1) (horizon c) (λ d u v. omega (arith, b d u v)),
-    )
+    let within : d ≤ horizon c = omega (arith, round-horizon cutOff c) in omega (arith, upper-falls c d within, b d u within)
 
 -- The rounds of p have come to c, after n that changed a figure.
 pub record Held (p : Pair) (n : ℕ) (c : Pair) : Type 0 where
@@ -52,7 +37,6 @@ pub record Held (p : Pair) (n : ℕ) (c : Pair) : Type 0 where
   pub figures : c ≡ after cutOff n p
   pub even : Even c
   pub bounded : Bounded (c .upper)
-  pub turns : n + weight c ≤ weight p
 
 pub begins : (p : Pair) → Even p → Bounded (p .upper) → Held p 0 p
 unfolding after
@@ -62,10 +46,13 @@ begins p e b =
       figures = sym (given-self p e);
       even = e;
       bounded = b;
-      turns = omega arith;
     }
 
 module _ (p : Pair) (n : ℕ) (c : Pair) (h : Held p n c) where
+  -- 256 is 2^8.
+  pub at-most-nine : horizon p ≤ maxHorizon → n ≤ 9
+  at-most-nine short = few-runs p 8 n short (h .runs)
+
   pub crosses : Crossed cutOff c → Crosses cutOff p n
   crosses x = record { runs = h .runs; crossed = subst (λ (y : Pair). Crossed cutOff y) (h .figures) x }
 
@@ -87,9 +74,6 @@ module _ (p : Pair) (n : ℕ) (c : Pair) (h : Held p n c) where
     unsettled f s =
         either-false (next ≡ c) _ done f (a .told) (a .figures ∙ full-same 0 (round cutOff c) c (round-full cutOff c) (h .even) s)
 
-    pub lighter : done ≡ false → weight next < weight c
-    lighter f = subst (λ (y : Pair). weight y < weight c) (sym (a .figures)) (weight-falls c uncrossed (unsettled f))
-
     pub goes-on : done ≡ false → Held p (n + 1) next
     unfolding after
     goes-on f =
@@ -102,5 +86,4 @@ module _ (p : Pair) (n : ℕ) (c : Pair) (h : Held p n c) where
           figures = a .figures ∙ ap (round cutOff) (h .figures) ∙ rw add-one;
           even = next-even;
           bounded = subst (λ (y : Pair). Bounded (y .upper)) (sym (a .figures)) (round-bounded c (h .bounded));
-          turns = omega (arith, lighter f);
         }

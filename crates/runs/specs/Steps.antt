@@ -1,5 +1,4 @@
 -- What the private functions of this crate promise each other. `run`'s promise cites nothing of it.
-use Prim.Native.Nat.{ℕ}
 use mathlib.Core.Path.{_≡_}
 use mathlib.Core.Bool.{Bool}
 use Rattle.laws.specs.Tests.{Tells}
@@ -18,9 +17,9 @@ pub record Advanced (c : Pair) (done : Bool) (next : Pair) : Type 0 where
 -- Where the rounds of p stop, with the pair q then held.
 abbrev pub Stopped : Pair → Stop → Pair → Type 0
 Stopped p (Settled n) q = Arrives cutOff p n q
-Stopped p Crossed q = (n : ℕ) × Crosses cutOff p n
+Stopped p (Crossed n) q = Crosses cutOff p n
 
 -- The held pair is put into the lent lists, or these stay as found; and the ending.
 abbrev pub Delivered : Stop → Pair → Pair → Ending → Pair → Type 0
 Delivered (Settled n) held found r left = (r ≡ ending.Arrived n) × (left ≡ held)
-Delivered Crossed held found r left = (r ≡ ending.Crossed) × (left ≡ found)
+Delivered (Crossed n) held found r left = (r ≡ ending.Crossed n) × (left ≡ found)

@@ -18,16 +18,16 @@ const MAX_HORIZON: usize = 256;
 pub enum Ending {
     // With a closure, after so many rounds that changed a figure.
     Arrived { rounds: u32 },
-    // With some least above its ceiling.
-    Crossed,
+    // With some least above its ceiling, after so many.
+    Crossed { rounds: u32 },
     // No round is run: the lists differ in length or are longer than 256, or a figure is above 16,776,960.
     Unfit,
 }
 
-// Where the rounds stop: at a closure, after so many that changed a figure, or at a least above its ceiling.
+// Where the rounds stop, after so many that changed a figure: at a closure, or at a least above its ceiling.
 enum Stop {
     Settled { rounds: u32 },
-    Crossed,
+    Crossed { rounds: u32 },
 }
 
 // Runs the rounds of the pair of `ceilings` and `leasts`. The closure, if they arrive at one, goes to `upper` and `lower`; else these stay
@@ -130,7 +130,7 @@ fn deliver(
             copy(held_lower, lower);
             Ending::Arrived { rounds }
         }
-        Stop::Crossed => Ending::Crossed,
+        Stop::Crossed { rounds } => Ending::Crossed { rounds },
     }
 }
 
@@ -141,7 +141,8 @@ fn zeros() -> [u32; MAX_HORIZON]
     [0u32; MAX_HORIZON]
 }
 
-// The rounds of the pair that is held, until one changes nothing or some least is above its ceiling. The other two slices are to work in.
+// The rounds of the pair that is held, until one changes nothing or some least is above its ceiling: that is after at most 9 that change a
+// figure (theorem 10). The other two slices are to work in.
 fn until_stop(
     upper: &mut [u32],
     lower: &mut [u32],
@@ -155,7 +156,7 @@ fn until_stop(
     let mut rounds: u32 = 0;
     loop {
         if crossed(upper, lower) {
-            return Stop::Crossed;
+            return Stop::Crossed { rounds };
         }
         if advance(upper, lower, new_upper, new_lower) {
             return Stop::Settled { rounds };

@@ -13,7 +13,7 @@ returns c =
     delivered _ _ _ _ _ (stop .given .1) (same-pairs _ _ _ _ (copied .copy .ensures .0) (c .before .before .copy2 .ensures .0))
 
 returns-2 : tie.Need-returns-2
-returns-2 c = undelivered _ _ _ _ (c .enum-told .given .1) refl
+returns-2 c = undelivered _ _ _ _ _ (c .before .stop2 .given .1) refl
 
 pub deliver-spec : {M : Type 1} → statement M
 deliver-spec =

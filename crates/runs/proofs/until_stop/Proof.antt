@@ -1,14 +1,14 @@
--- `runs::until_stop` meets its contract: before a turn the rounds have come to the pair that is held, which weighs less each time.
+-- `runs::until_stop` meets its contract: before a turn the rounds have come to the pair that is held, and are nine at most.
 -- Assumes nothing.
+use Prim.Native.Nat.{_-_, _≤_}
 use mathlib.Core.Path.{_≡_, refl}
 use native.Mathlib.Omega.{arith}
 use borrow.Author.Needs.{needs}
 use lib.ListN.{length}
 use Rattle.curves.specs.Rounds.{cutOff, Crossed}
-use Rattle.curves.proofs.Weight.{weight}
 use Rattle.curves.specs.Pairs.{pairOf}
 use Rattle.laws.proofs.Tests.{either-true, either-false}
-use Rattle.runs.proofs.Progress.{Held, begins, crosses, arrives, goes-on, lighter, lower-bounded, weight-limit}
+use Rattle.runs.proofs.Progress.{Held, begins, at-most-nine, crosses, arrives, goes-on, lower-bounded}
 use Rattle.runs.proofs.until_stop.Statement.{statement}
 use Rattle.runs.proofs.until_stop.Tie as tie
 
@@ -20,7 +20,10 @@ Inv-loop upper₀ lower₀ new-upper₀ new-lower₀ rounds₀ upper lower new-u
     × (length new-lower ≡ length new-lower₀)
 
 abbrev μ-loop : tie.MeasureT-loop
-μ-loop upper₀ lower₀ new-upper₀ new-lower₀ rounds₀ upper lower new-upper new-lower rounds = weight (pairOf upper lower)
+μ-loop upper₀ lower₀ new-upper₀ new-lower₀ rounds₀ upper lower new-upper new-lower rounds = 10 - rounds
+
+few : (turn : tie.At-loop Inv-loop μ-loop) → turn .loop .rounds ≤ 9
+few turn = at-most-nine _ _ _ (turn .loop .inv .0) (turn .before .before .before .before .before .pre .0 .0)
 
 loop-holds : tie.Need-loop-holds Inv-loop μ-loop
 loop-holds c =
@@ -30,7 +33,7 @@ loop-holds c =
 returns : tie.Need-returns Inv-loop μ-loop
 returns c =
     let head = c .before .before .before .before .loop in
-    (head .rounds, crosses _ _ _ (head .inv .0) (either-true _ _ _ (c .if1 .taken) (c .before .crossed .ensures)))
+    crosses _ _ _ (head .inv .0) (either-true _ _ _ (c .if1 .taken) (c .before .crossed .ensures))
 
 advance-requires : tie.Need-advance-requires Inv-loop μ-loop
 advance-requires c κs =
@@ -54,16 +57,11 @@ returns-2 c =
     arrives _ _ _ (head a .loop .inv .0) (uncrossed a) _ _ (a .advance .ensures) (c .if2 .taken)
 
 add-rounds : tie.Need-add-rounds Inv-loop μ-loop
-add-rounds c =
-    let turn = head (c .before .before .before .before .before .before .before .before .before) in
-    let start = turn .before .before .before .before .before in
-    let p = pairOf (start .args .upper .now) (start .args .lower .now) in
-    omega (arith, turn .loop .inv .0 .turns, weight-limit p (start .pre .0 .0) (start .pre .0 .1))
+add-rounds c = omega (arith, few (head (c .before .before .before .before .before .before .before .before .before)))
 
 loop-less : tie.Need-loop-less Inv-loop μ-loop
 loop-less c =
-    let a = c .before .before .before .before .before .before .before .before .before in
-    lighter _ _ _ (head a .loop .inv .0) (uncrossed a) _ _ (a .advance .ensures) (c .if2 .left)
+    omega (arith, few (head (c .before .before .before .before .before .before .before .before .before)))
 
 loop-again : tie.Need-loop-again Inv-loop μ-loop
 loop-again c =
