@@ -4,6 +4,7 @@ use crate::pairs::{self, Pair};
 use crate::paths;
 use crate::random::Rng;
 use crate::reference::Reference;
+use crate::rounds;
 use crate::subject::{refusal_of, shown, value_of, Subject, LIMIT, LONGEST_HORIZON};
 use crate::tally::{Tally, CLOSING, ROUNDS, TWO_FAULTS};
 
@@ -128,15 +129,19 @@ fn make(rng: &mut Rng, mut pair: Pair) -> Case {
     Case::new(rng, pair, upper, lower)
 }
 
-/// No pair takes more rounds: each of them changes a figure by one at least, and twice as many steps of a walk are made one in each.
-fn rounds_bound(case: &Case) -> u64 {
+/// No pair takes more rounds: twice as many steps of a walk are made one in each; and where they arrive, each of them changes a figure by
+/// one at least.
+fn rounds_bound(case: &Case, arrives: bool) -> u64 {
+    let doublings = 1 + u64::from(case.ceilings.len().next_power_of_two().trailing_zeros());
+    if !arrives {
+        return doublings;
+    }
     let widths = case
         .ceilings
         .iter()
         .zip(&case.leasts)
         .map(|(ceiling, least)| u64::from(ceiling.saturating_sub(*least)));
-    let doublings = case.ceilings.len().next_power_of_two().trailing_zeros();
-    widths.sum::<u64>().min(1 + u64::from(doublings))
+    widths.sum::<u64>().min(doublings)
 }
 
 /// The rounds against the two ways that know no rounds. A difference here is one inside the reference.
@@ -145,12 +150,9 @@ fn check_reference(case: &Case, expected: &Outcome, paths_too: bool) -> Result<(
     if none != paths::rates_conflict(&case.ceilings, &case.leasts) {
         return Err(format!("the rounds and the rates disagree on\n{}", case.input()));
     }
-    if u64::from(value_of(expected.answer)) > rounds_bound(case) {
-        return Err(format!(
-            "{} rounds are more than there can be on\n{}",
-            value_of(expected.answer),
-            case.input()
-        ));
+    let rounds = rounds::run(&case.ceilings, &case.leasts).rounds;
+    if u64::from(rounds) > rounds_bound(case, !none) {
+        return Err(format!("{rounds} rounds are more than there can be on\n{}", case.input()));
     }
     if !paths_too {
         return Ok(());

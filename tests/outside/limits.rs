@@ -1,7 +1,9 @@
-//! The lines that the program `limits` has to write: lists at the limits, and states built by hand. Its numbers are drawn here as they are
-//! drawn there; what comes of them is computed by the reference.
+//! The lines that the program `limits` has to write: lists at the limits, pairs with as many rounds as any, and states built by hand. Its
+//! numbers are drawn here as they are drawn there; what comes of them is computed by the reference.
 
+use crate::pairs;
 use crate::reference::Reference;
+use crate::rounds;
 use crate::streams::{bounds, chosen, verdict};
 use crate::subject::{Subject, LIMIT, LONGEST_HORIZON, PASSED, TOO_FEW, TOO_MANY};
 
@@ -37,6 +39,28 @@ fn lists_line(n: usize, ceiling: u32, least: u32) -> String {
         digest(&counts),
         digest(&choices)
     )
+}
+
+/// One line on a pair: how its rounds end, and what closing it answers.
+fn rounds_line(ceilings: &[u32], leasts: &[u32]) -> String {
+    let stop = rounds::run(ceilings, leasts);
+    let ending = if stop.curves.crosses() { "crossed" } else { "arrived" };
+    let (mut upper, mut lower) = ([7; LONGEST_HORIZON], [7; LONGEST_HORIZON]);
+    let answer = Reference.close(ceilings, leasts, &mut upper, &mut lower);
+    format!(
+        "rounds {} {ending} {} {answer} {} {}",
+        ceilings.len(),
+        stop.rounds,
+        digest(&upper),
+        digest(&lower)
+    )
+}
+
+/// The same on the pair of a text.
+fn text_line(text: &[u8]) -> String {
+    let (mut ceilings, mut leasts) = ([0; LONGEST_HORIZON], [0; LONGEST_HORIZON]);
+    let horizon = Reference.read(text, &mut ceilings, &mut leasts) as usize;
+    rounds_line(&ceilings[..horizon], &leasts[..horizon])
 }
 
 struct State {
@@ -166,7 +190,13 @@ fn lines() -> Vec<String> {
     let lists = lengths
         .iter()
         .flat_map(|&n| figures.iter().map(move |&(ceiling, least)| lists_line(n, ceiling, least)));
-    lists.chain((1..=CASES).map(state_line)).collect()
+    let nine = pairs::nine_rounds();
+    let longest = [
+        text_line(b"window,least,most\r\n2,0,2\r\n255,255,65535\r\n"),
+        text_line(b"window,least,most\r\n2,0,2\r\n255,256,65535\r\n"),
+        rounds_line(&nine.ceilings, &nine.leasts),
+    ];
+    lists.chain(longest).chain((1..=CASES).map(state_line)).collect()
 }
 
 /// The lines that are stored for the program, against those computed. Gives back how many there are.

@@ -10,7 +10,8 @@ pub struct Curves {
     pub leasts: Vec<i64>,
 }
 
-pub struct Closed {
+/// The figures that the rounds stop at, and how many of them changed one.
+pub struct Stop {
     pub curves: Curves,
     pub rounds: u32,
 }
@@ -38,7 +39,7 @@ impl Curves {
         self.ceilings.len() - 1
     }
 
-    fn crosses(&self) -> bool {
+    pub fn crosses(&self) -> bool {
         (1..=self.horizon()).any(|d| self.leasts[d] > self.ceilings[d])
     }
 
@@ -67,19 +68,23 @@ fn round(old: &Curves) -> Curves {
     new
 }
 
-/// The closure and its count of changing rounds, or nothing where the figures cross.
-pub fn close(ceilings: &[u32], leasts: &[u32]) -> Option<Closed> {
+pub fn run(ceilings: &[u32], leasts: &[u32]) -> Stop {
     let mut curves = Curves::new(ceilings, leasts);
     let mut rounds = 0;
     while !curves.crosses() {
         let next = round(&curves);
         if next == curves {
-            return Some(Closed { curves, rounds });
+            break;
         }
         curves = next;
         rounds += 1;
     }
-    None
+    Stop { curves, rounds }
+}
+
+/// The closure and its count of changing rounds, or nothing where the figures cross.
+pub fn close(ceilings: &[u32], leasts: &[u32]) -> Option<Stop> {
+    Some(run(ceilings, leasts)).filter(|stop| !stop.curves.crosses())
 }
 
 /// Questions 1, 2 and 4, as an opening asks them; closing asks 3 before 4. 0 where all are answered well.

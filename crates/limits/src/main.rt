@@ -2,10 +2,12 @@
 // that anyone could build but no opening and no tick hands out. Each line is what was tried and what came back; the outside tests
 // compute the same lines.
 mod lists;
+mod longest;
 mod numbers;
 mod states;
 
 fn main() {
     lists::try_all();
+    longest::try_all();
     states::try_all();
 }
