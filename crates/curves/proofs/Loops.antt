@@ -69,10 +69,10 @@ pub record Walk (H : ℕ) (c : Pair) (n x z u l : ℕ) : Type 0 where
   pub cost : sum (along (rise c) at) 0 n + l ≤ u + sum (along (fall c) at) 0 n
 
 -- One edge more, in front.
-longer : (H : ℕ) (c : Pair) (n x y z u l U L : ℕ) → x ≤ H → rise c x y + u + L ≤ U + (fall c x y + l)
+longer : (H : ℕ) (c : Pair) {n z u l U L : ℕ} (x y : ℕ) → x ≤ H → rise c x y + u + L ≤ U + (fall c x y + l)
     → Walk H c n y z u l → Walk H c (suc n) x z U L
 unfolding first
-longer H c n x y z u l U L h e w =
+longer H c {n} x y h e w =
     record {
       at = first x (w .at);
       inside = inside;
@@ -104,10 +104,10 @@ stay H c x z h e = (0, omega arith, record { at = λ t. x; inside = λ t. h; fro
 
 module _ (H k : ℕ) (c : ℕ → Pair) (levels : Levels H k c) where
   -- i edges lead to a loop, d are its own, and m follow it.
-  unlooped : (i d m n x z u l : ℕ) → i + (d + m) ≡ n → d ≤ 2 ^ suc k → (w : Walk H (c 0) n x z u l) → w .at (i + d) ≡ w .at i
+  unlooped : {n x z u l : ℕ} (i d m : ℕ) → i + (d + m) ≡ n → d ≤ 2 ^ suc k → (w : Walk H (c 0) n x z u l) → w .at (i + d) ≡ w .at i
       → Walk H (c 0) (i + m) x z u l
   unfolding without
-  unlooped i d m n x z u l e b w back =
+  unlooped {n} i d m e b w back =
       let end : i + m + d ≡ n = omega arith in
       record {
         at = without (w .at) i d back;
@@ -125,9 +125,9 @@ module _ (H k : ℕ) (c : ℕ → Pair) (levels : Levels H k c) where
       }
 
   -- One edge in front of a short walk. H + 1 edges come to H + 2 places, two of which are one.
-  pub ahead : (x y z u l U L : ℕ) → x ≤ H → rise (c 0) x y + u + L ≤ U + (fall (c 0) x y + l)
+  pub ahead : {z u l U L : ℕ} (x y : ℕ) → x ≤ H → rise (c 0) x y + u + L ≤ U + (fall (c 0) x y + l)
       → ShortWalk H (c 0) y z u l → ShortWalk H (c 0) x z U L
-  ahead x y z u l U L h e short =
+  ahead {z} {U} {L} x y h e short =
       elim (decLe (suc n) H) [
         | yes m ↦ (suc n, m, w)
         | no m ↦ unloop (pigeonhole n (w .at) (λ i b. omega (arith, w .inside i)))
@@ -137,14 +137,14 @@ module _ (H k : ℕ) (c : ℕ → Pair) (levels : Levels H k c) where
       n = short .0
 
       w : Walk H (c 0) (suc n) x z U L
-      w = longer H (c 0) n x y z u l U L h e (short .2)
+      w = longer H (c 0) x y h e (short .2)
 
       unloop : Repeats (w .at) (suc n) → ShortWalk H (c 0) x z U L
       unloop r =
           let around : r .first + (r .second - r .first) ≡ r .second = omega (arith, r .before) in (
             r .first + (suc n - r .second),
             omega (arith, r .before, r .within, short .1),
-            unlooped (r .first) (r .second - r .first) (suc n - r .second) (suc n) x z U L
+            unlooped (r .first) (r .second - r .first) (suc n - r .second)
                 (omega (arith, r .before, r .within))
                 (omega (arith, r .within, short .1, levels .short, one-le-pow k 2 (omega arith)))
                 w

@@ -16,56 +16,56 @@ use Rattle.curves.proofs.Loops.{ShortWalk, stay, ahead}
 use Rattle.curves.proofs.Combinations.{total, Combination, together, Combined}
 
 module _ (H k : ℕ) (o : Pair) (c : ℕ → Pair) (levels : Levels H k c) (same : horizon o ≡ H) (tight : Tightened o (c 0)) where
-  -- Up by a and down by b at once.
-  move : (a b x y z u l U L : ℕ) → a ≤ H → b ≤ H → x ≤ H → x + a ≡ y + b → ceiling o a + u + L ≤ U + (least o b + l)
+  -- Up by a and down by b at once, in front of a walk.
+  move : {u l U L : ℕ} (a b x y z : ℕ) → a ≤ H → b ≤ H → x ≤ H → x + a ≡ y + b → ceiling o a + u + L ≤ U + (least o b + l)
       → ShortWalk H (c 0) y z u l → ShortWalk H (c 0) x z U L
-  move a b x y z u l U L p q r e h =
-      ahead H k c levels x y z u l U L r (omega (arith, detour o (c 0) tight a b x y (rw same p) (rw same q) e))
+  move a b x y z p q r e h =
+      ahead H k c levels x y r (omega (arith, detour o (c 0) tight a b x y (rw same p) (rw same q) e))
 
-  -- Steps up and down can be taken.
-  Taken : List ℕ → List ℕ → Type 0
-  Taken ups downs =
+  -- Windows that go up and windows that go down can be walked.
+  Walked : List ℕ → List ℕ → Type 0
+  Walked ups downs =
       Each (λ a. a ≤ H) ups → Each (λ b. b ≤ H) downs → (x z : ℕ) → x ≤ H → z ≤ H
       → x + total (λ a. a) ups ≡ z + total (λ b. b) downs → ShortWalk H (c 0) x z (total (ceiling o) ups) (total (least o) downs)
 
-  only-down : (downs : List ℕ) → Taken [] downs
-  unfolding Taken total figure
+  only-down : (downs : List ℕ) → Walked [] downs
+  unfolding Walked total figure
   only-down [] f g x z p q e = stay H (c 0) x z p (omega arith)
   only-down (b ∷ downs) f g x z p q e =
-      move 0 b x (x - b) z 0 (total (least o) downs) _ _ (omega arith) (g .0) p (omega arith) (omega arith)
+      move 0 b x (x - b) z (omega arith) (g .0) p (omega arith) (omega arith)
       (only-down downs f (g .1) (x - b) z (omega arith) q (omega arith))
 
   -- Up where there is room above, else down where there is room below, else both at once.
-  up-or-down : (a : ℕ) (ups : List ℕ) → ((downs : List ℕ) → Taken ups downs) → (downs : List ℕ) → Taken (a ∷ ups) downs
-  unfolding Taken total figure
+  up-or-down : (a : ℕ) (ups : List ℕ) → ((downs : List ℕ) → Walked ups downs) → (downs : List ℕ) → Walked (a ∷ ups) downs
+  unfolding Walked total figure
   up-or-down a ups rest [] f g x z p q e =
-      move a 0 x (x + a) z (total (ceiling o) ups) 0 _ _ (f .0) (omega arith) p (omega arith) (omega arith)
+      move a 0 x (x + a) z (f .0) (omega arith) p (omega arith) (omega arith)
       (rest [] (f .1) g (x + a) z (omega arith) q (omega arith))
   up-or-down a ups rest (b ∷ downs) f g x z p q e =
       elim (decLe (x + a) H) [
         | yes h ↦
-            move a 0 x (x + a) z (total (ceiling o) ups) (total (least o) (b ∷ downs)) _ _ (f .0) (omega arith) p (omega arith) (omega arith)
+            move a 0 x (x + a) z (f .0) (omega arith) p (omega arith) (omega arith)
             (rest (b ∷ downs) (f .1) g (x + a) z h q (omega arith))
         | no h ↦
             elim (decLe b x) [
               | yes i ↦
-                  move 0 b x (x - b) z (total (ceiling o) (a ∷ ups)) (total (least o) downs) _ _ (omega arith) (g .0) p (omega arith) (omega arith)
+                  move 0 b x (x - b) z (omega arith) (g .0) p (omega arith) (omega arith)
                   (up-or-down a ups rest downs f (g .1) (x - b) z (omega arith) q (omega arith))
               | no i ↦
-                  move a b x (x + a - b) z (total (ceiling o) ups) (total (least o) downs) _ _ (f .0) (g .0) p (omega arith) (omega arith)
-                  (rest downs (f .1) (g .1) (x + a - b) z (omega (arith, f .0)) q (omega (arith, f .0, g .0)))
+                  move a b x (x + a - b) z (f .0) (g .0) p (omega arith) (omega arith)
+                  (rest downs (f .1) (g .1) (x + a - b) z (omega (arith, f .0)) q (omega arith))
             ]
       ]
 
-  taken : (ups downs : List ℕ) → Taken ups downs
-  taken [] = only-down
-  taken (a ∷ ups) = up-or-down a ups (taken ups)
+  walked : (ups downs : List ℕ) → Walked ups downs
+  walked [] = only-down
+  walked (a ∷ ups) = up-or-down a ups (walked ups)
 
-  -- So an edge of the k-th pair costs no more than any steps with the figures of o.
+  -- So one edge of the last pair costs no more than any combination of figures of o.
   edge : (x z u l : ℕ) → x ≤ H → z ≤ H → Combination H o x z u l → rise (c k) x z + l ≤ u + fall (c k) x z
-  unfolding Taken
+  unfolding Walked
   edge x z u l p q s =
-      let (n, few, w) = taken (s .ups) (s .downs) (s .ups-fit) (s .downs-fit) x z p q (s .lead) in
+      let (n, few, w) = walked (s .ups) (s .downs) (s .ups-fit) (s .downs-fit) x z p q (s .lead) in
       omega (
         arith,
         s .cost,
@@ -79,34 +79,30 @@ module _ (H k : ℕ) (o : Pair) (c : ℕ → Pair) (levels : Levels H k c) (same
   fewest : (d u l : ℕ) → d ≤ H → Combination H o d 0 u l → l ≤ u + least (c k) d
   fewest d u l h s = omega (arith, rw (sub-zero d) at (edge d 0 u l h (omega arith) s), no-rise (c k) d 0 (omega arith))
 
-  -- What two figures make together is the cost of steps too.
+  -- Two figures of the last pair are a combination together, and so imply nothing that it does not say.
   pub closed-last : Combined H o (c k) → Closed (c k)
   closed-last m =
-      let within : (d : ℕ) → d ≤ horizon (c k) → d ≤ H = λ d w. rw (levels .horizons k) at w in
+      let e : horizon (c k) ≡ H = levels .horizons k in
       record {
         upper-plus = λ a b w.
-            let h : a + b ≤ H = within (a + b) w in
             omega (
               arith,
-              most (a + b) (ceiling (c k) a + ceiling (c k) b) 0 h
+              most (a + b) (ceiling (c k) a + ceiling (c k) b) 0 (omega arith)
                   (together H o (m a (omega arith) .0) (m b (omega arith) .0) (omega arith) (omega arith)),
             );
         lower-plus = λ a b w.
-            let h : a + b ≤ H = within (a + b) w in
             omega (
               arith,
-              fewest (a + b) 0 (least (c k) a + least (c k) b) h
+              fewest (a + b) 0 (least (c k) a + least (c k) b) (omega arith)
                   (together H o (m a (omega arith) .1) (m b (omega arith) .1) (omega arith) (omega arith)),
             );
         upper-minus = λ a b w.
-            let h : a + b ≤ H = within (a + b) w in
             most a (ceiling (c k) (a + b)) (least (c k) b) (omega arith)
-            (together H o (m (a + b) h .0) (m b (omega arith) .1) (omega arith) (omega arith));
+            (together H o (m (a + b) (omega arith) .0) (m b (omega arith) .1) (omega arith) (omega arith));
         lower-minus = λ a b w.
-            let h : a + b ≤ H = within (a + b) w in
             omega (
               arith,
               fewest a (ceiling (c k) b) (least (c k) (a + b)) (omega arith)
-                  (together H o (m (a + b) h .1) (m b (omega arith) .0) (omega arith) (omega arith)),
+                  (together H o (m (a + b) (omega arith) .1) (m b (omega arith) .0) (omega arith) (omega arith)),
             );
       }
