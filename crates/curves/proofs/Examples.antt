@@ -1,15 +1,17 @@
 -- The definitions of specs/ at small examples: each holds by computation. Assumes nothing.
+use Prim.Native.Nat.{ℕ, _^_, _≤_}
 use mathlib.Core.Path.{_≡_, refl}
 use mathlib.Core.List.{[], _∷_}
 use mathlib.Core.Logic.{Dec·and}
 use native.Mathlib.Decide.{decLe, decLt, ℕ-discrete}
+use native.Mathlib.Omega.{arith}
 use lib.IntN.{pos, negsuc}
 use Rattle.laws.specs.Ranges.{fold, table}
 use Rattle.laws.proofs.Search.{every}
 use Rattle.curves.specs.Streams.{sum, countsOf}
-use Rattle.curves.specs.Pairs.{Pair, pairOf, figure, ceiling, slack}
+use Rattle.curves.specs.Pairs.{Pair, pairOf, horizon, figure, ceiling, slack}
 use Rattle.curves.specs.Ticks.{newest, passed, tooMany, tooFew}
-use Rattle.curves.specs.Rounds.{whole, cutOff, newFigure, round, given, after, Arrives}
+use Rattle.curves.specs.Rounds.{whole, cutOff, newFigure, round, given, after, Runs, Arrives}
 use Rattle.curves.proofs.Arrival.{crossed?, equal?}
 use Rattle.curves.proofs.Computed.{left?, same?, runs?, arrives?, arrives-computed}
 use Rattle.curves.proofs.Verdicts.{inside?, judged?, find, turned-down, verdict?}
@@ -62,6 +64,10 @@ three-rounds = arrives-computed _ 3 _ tt
 four-rounds : Arrives whole published 4 (pairOf (1 ∷ 2 ∷ 3 ∷ 4 ∷ 5 ∷ []) (1 ∷ 2 ∷ 3 ∷ 4 ∷ 5 ∷ []))
 unfolding arrives? runs? left? same? crossed? equal? every decLe ℕ-discrete after given round newFigure fold table figure
 four-rounds = arrives-computed published 4 _ tt
+
+-- So no smaller bound than k + 1 holds for every k.
+no-smaller : ¬ ((p : Pair) (k n : ℕ) → horizon p ≤ 2 ^ k → Runs whole p n → n ≤ k)
+no-smaller h = omega (arith, h _ 2 3 (omega arith) (three-rounds .runs))
 
 -- ---- the newest tick
 newest-two : newest 2 (1 ∷ 2 ∷ 3 ∷ []) ≡ 2 ∷ 3 ∷ []
