@@ -26,7 +26,7 @@ typedef uint64_t calgedze_answer;
 
 /*
  * Closes the pair of `ceilings` and `leasts`; its H is their length. The closure goes to the first H entries of `upper` and `lower`,
- * the others stay as they are, and the value is the count of rounds that changed a figure. Refused with
+ * the others stay as they are, and the value is the count of rounds that changed a figure, 9 at most. Refused with
  *   1  `ceilings` is not 1 to 256 long
  *   2  `leasts` has another length
  *   3  `upper` or `lower` is shorter
