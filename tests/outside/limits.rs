@@ -1,4 +1,4 @@
-//! The lines that the program `limits` has to write: lists at the limits, pairs with as many rounds as any, and states built by hand. Its
+//! The lines that the program `limits` has to write: lists at the limits, pairs of many rounds, and states built by hand. Its
 //! numbers are drawn here as they are drawn there; what comes of them is computed by the reference.
 
 use crate::pairs;

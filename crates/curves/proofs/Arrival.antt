@@ -1,5 +1,5 @@
--- Theorem 1: the rounds of a pair arrive or cross, one of the two, once; arrive within the pair's slack; and end within the logarithm of its
--- horizon (theorem 10). Assumes nothing.
+-- Theorem 1: the rounds of a pair arrive or cross, one of the two, once, and arrive within the pair's slack. Theorem 10, its second half:
+-- they have ended after k + 1 where the horizon is at most 2^k. Assumes nothing.
 use Prim.Native.Nat.{ℕ, zero, suc, _+_, _-_, _^_, _≤_, _<_}
 use mathlib.Core.Path.{_≡_, sym, ap₂}
 use mathlib.Core.Logic.{_⊎_, inl, inr, ⊎-elim, ⊎-map}

@@ -13,6 +13,7 @@ use Rattle.curves.proofs.Agreement.{crossed-given, settled-given}
 abbrev pub Closed : Pair → Type 0
 Closed p = Tightened p p
 
+-- A causal pair is closed: a round tightens it, and leaves its figures as they are.
 settled-figures : (p : Pair) → Settled cutOff p → (d : ℕ) → d ≤ horizon p
     → (ceiling (round cutOff p) d ≡ ceiling p d) × (least (round cutOff p) d ≡ least p d)
 unfolding figure

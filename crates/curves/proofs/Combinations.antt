@@ -74,7 +74,10 @@ module _ (H : ℕ) (c : Pair) where
   pub round-combined : (e : Pair) → horizon e ≡ H → Combined e → Combined (round cutOff e)
   unfolding figure
   round-combined e h m zero v = m 0 v
-  round-combined e h m (suc d) v = (rw (round-upper cutOff e (suc d) (omega arith) w) upper, rw (round-lower cutOff e (suc d) (omega arith) w) lower)
+  round-combined e h m (suc d) v = (
+    rw (round-upper cutOff e (suc d) (omega arith) w) upper,
+    rw (round-lower cutOff e (suc d) (omega arith) w) lower,
+  )
     where
       w : suc d ≤ horizon e
       w = rw h v

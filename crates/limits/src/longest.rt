@@ -1,4 +1,4 @@
-// Pairs that take as many rounds as any, on the way to a closure or to a least above its ceiling.
+// Pairs of many rounds: nine to a closure, which are the most that there can be, and eight to a least above its ceiling.
 use crate::numbers;
 use libc::STDOUT_FILENO;
 use runs::Ending;
