@@ -10,9 +10,9 @@ use lib.IntN.{pos}
 use Rattle.laws.proofs.Best.{fold-ext}
 use Rattle.laws.proofs.Search.{every, below-suc}
 use Rattle.curves.specs.Pairs.{horizon, Pair, ceiling, least, Equal, slack}
-use Rattle.curves.specs.Rounds.{Arithmetic, whole, cutOff, given, round, after, Crossed, Settled, Runs, Arrives, Crosses}
+use Rattle.curves.specs.Rounds.{Arithmetic, cutOff, given, round, after, Crossed, Settled, Runs, Arrives}
 use Rattle.curves.specs.Theorems.{Closes, ArrivesOrCrosses, NeverBoth, ArrivesOnce, CrossesOnce}
-use Rattle.curves.specs.Theorems.{RoundsWithinSlack, EndsWithinLogarithm}
+use Rattle.curves.specs.Theorems.{RoundsWithinSlack, EndsWithin, EndsWithinLogarithm}
 use Rattle.curves.proofs.Figures.{round-horizon, same-sym, same-trans}
 use Rattle.curves.proofs.Slack.{slack-falls}
 use Rattle.curves.proofs.Bound.{few-runs}
@@ -58,12 +58,8 @@ runs-more A p n r h s =
 pub runs-none : (A : Arithmetic) (p : Pair) → Runs A p 0
 runs-none A p = record { uncrossed = λ k l. absurd (omega arith); changes = λ k l. absurd (omega arith) }
 
--- The rounds of p end, after at most m.
-abbrev Ends : Pair → ℕ → Type 0
-Ends p m = ((n : ℕ) × (q : Pair) × (n ≤ m) × Arrives whole p n q) ⊎ ((n : ℕ) × (n ≤ m) × Crosses whole p n)
-
 -- n rounds have been run, and as many as `left` may follow: more than are ever run.
-ends-from : (p : Pair) (k left n : ℕ) → horizon p ≤ 2 ^ k → k + 1 < n + left → Runs cutOff p n → Ends p (k + 1)
+ends-from : (p : Pair) (k left n : ℕ) → horizon p ≤ 2 ^ k → k + 1 < n + left → Runs cutOff p n → EndsWithin p (k + 1)
 unfolding after
 ends-from p k zero n h l r = absurd (omega (arith, few-runs p k n h r))
 ends-from p k (suc left) n h l r =

@@ -63,7 +63,9 @@ OneMoreTick =
 abbrev pub RunsWithinLogarithm : Type 0
 RunsWithinLogarithm = (p : Pair) (k n : ℕ) → horizon p ≤ 2 ^ k → Runs whole p n → n ≤ k + 1
 
+-- The rounds of p arrive or cross, after at most m that change a figure.
+abbrev pub EndsWithin : Pair → ℕ → Type 0
+EndsWithin p m = ((n : ℕ) × (q : Pair) × (n ≤ m) × Arrives whole p n q) ⊎ ((n : ℕ) × (n ≤ m) × Crosses whole p n)
+
 abbrev pub EndsWithinLogarithm : Type 0
-EndsWithinLogarithm =
-    (p : Pair) (k : ℕ) → horizon p ≤ 2 ^ k
-    → ((n : ℕ) × (q : Pair) × (n ≤ k + 1) × Arrives whole p n q) ⊎ ((n : ℕ) × (n ≤ k + 1) × Crosses whole p n)
+EndsWithinLogarithm = (p : Pair) (k : ℕ) → horizon p ≤ 2 ^ k → EndsWithin p (k + 1)
