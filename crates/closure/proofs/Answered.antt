@@ -16,11 +16,12 @@ use Rattle.runs.specs.declared.Ending.the-variants.{Arrived, Crossed, Unfit}
 use Rattle.runs.specs.Running.{Fit, Ended}
 use Rattle.closure.specs.declared.Closing.{Closing}
 use Rattle.closure.specs.declared.Closing.the-variants.{Closed}
-use Rattle.closure.specs.Closing.{question1, question2, question3, question4, refused, closed, closing}
+use Rattle.bounds.specs.Bounds.{question1, question2, question4}
+use Rattle.closure.specs.Closing.{question3, refused, closed, closing}
 use Rattle.closure.specs.Answers.{answer}
 use Rattle.closure.specs.Theorems.{Passes}
 use Rattle.closure.specs.Steps.{closingFor}
-use Rattle.closure.proofs.Said.{within-4, refused-is, closed-is, fifth}
+use Rattle.closure.proofs.Said.{refused-is, closed-is, fifth}
 
 module _ (p found : Pair) where
   pub no-1 : ¬ question1 p .asked → refused 1 found ≡ closing p found
@@ -58,14 +59,14 @@ module _ (p found : Pair) where
 
     -- The lists fit exactly where question 4 is answered yes too.
     passes : Fit p front → Passes p found
-    passes f = (y₁, (y₂, (y₃, (within-4 p y₂ .0 (f .1 .1), tt))))
+    passes f = (y₁, (y₂, (y₃, (f .1 .1, tt))))
 
     fit : question4 p .asked → Fit p front
     fit y₄ = (
       y₁ .1,
       (
         (y₂, (length-take-le (horizon p) (found .upper) (y₃ .0), (length-take-le (horizon p) (found .lower) (y₃ .1), tt))),
-        within-4 p y₂ .1 y₄,
+        y₄,
       ),
     )
 

@@ -81,7 +81,7 @@ single s i = omega (arith, ap s (add-zero i))
 
 pub within-limit : (p found : Pair) → Passes p found → (s : ℕ → ℕ) → Conforms∞ p s → (i : ℕ) → s i ≤ countLimit
 within-limit p found ok s c i =
-    omega (arith, single s i, c i 1 (omega arith) (ok .0 .0), ok .1 .1 .1 .0 1 (omega arith) (ok .0 .0))
+    omega (arith, single s i, c i 1 (omega arith) (ok .0 .0), ok .1 .1 .1 .0 .0 1 (omega arith) (ok .0 .0))
 
 abbrev pub streamOf : (p found : Pair) → Passes p found → (s : ℕ → ℕ) → Conforms∞ p s → Stream
 streamOf p found ok s c = record { counts = s; within = within-limit p found ok s c }

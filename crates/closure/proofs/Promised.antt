@@ -121,10 +121,20 @@ pub given-passes : GivenPasses
 given-passes p found g =
     let ok = gives-passes p found g .0 in
     let is = given-horizon p found g in
-    let limit = ok .1 .1 .1 .0 in
+    let even = given-even p found g in
+    let limit = ok .1 .1 .1 .0 .0 in
     let low = closure-figures p (closureOf p found) _ (arrived p found g) in (
       (omega (arith, ok .0 .0), omega (arith, ok .0 .1)),
-      (given-even p found g, ((λ d u v. omega (arith, low d u (omega arith), limit d u (omega arith))), tt)),
+      (
+        even,
+        (
+          (
+            (λ d u v. omega (arith, low d u (omega arith), limit d u (omega arith))),
+            (λ d u v. omega (arith, low d u (omega arith), limit d u (omega arith))),
+          ),
+          tt,
+        ),
+      ),
     )
 
 pub closed-again : ClosedAgain

@@ -3,7 +3,7 @@
 use Prim.Native.Nat.{ℕ}
 use mathlib.Core.Path.{_≡_, refl}
 use mathlib.Core.List.{_++_}
-use mathlib.Core.Logic.{_↔_, _⊎_, inl, inr, ⊎-elim}
+use mathlib.Core.Logic.{_⊎_, inl, inr, ⊎-elim}
 use native.Mathlib.Omega.{arith}
 use lib.ListN.{drop}
 use Rattle.laws.proofs.Table.{table-same}
@@ -13,16 +13,8 @@ use Rattle.curves.specs.Questions.{AllYes, FirstNo, ask}
 use Rattle.curves.specs.Theorems.{Closes}
 use Rattle.curves.proofs.Asked.{said-no, said-yes, Positive, no-iff, yes-iff}
 use Rattle.curves.proofs.Arrival.{arrives-once}
-use Rattle.bounds.specs.Bounds.{Bounded}
-use Rattle.closure.specs.Closing.{question2, question4, questions, refused, closed, closing}
+use Rattle.closure.specs.Closing.{questions, refused, closed, closing}
 use Rattle.closure.specs.Theorems.{Passes, GivesWhatArrives, RefusedIffFirstNo, GivesClosure, ClosureIffAllYes}
-
--- Question 4 of a pair that passes question 2 is that of its two lists.
-pub within-4 : (p : Pair) → question2 p .asked → (Bounded (p .upper) × Bounded (p .lower)) ↔ (question4 p .asked)
-within-4 p e = (
-  (λ b d u v. (b .0 d u v, b .1 d u (omega arith))),
-  (λ q. ((λ d u v. q d u v .0), (λ d u v. q d u (omega arith) .1))),
-)
 
 -- The answer depends on the closure's figures only.
 pub closed-equal : (found : Pair) (m n : ℕ) (q r : Pair) → m ≡ n → Equal q r → closed m q found ≡ closed n r found

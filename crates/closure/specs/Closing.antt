@@ -1,30 +1,16 @@
--- Closing (document 01, "The closure" and questions 1 to 5): two lists in, two lists lent for results.
+-- Closing (document 01, "The closure" and questions 1 to 5): two lists in, two lists lent for results. Questions 1, 2 and 4 are those of
+-- every operation on a pair.
 use Prim.Native.Nat.{ℕ, _≤_}
-use mathlib.Core.Path.{_≡_}
 use mathlib.Core.List.{List, [], _∷_, _++_}
 use mathlib.Core.Logic.{Dec·and}
-use native.Mathlib.Decide.{decLe, ℕ-discrete}
+use native.Mathlib.Decide.{decLe}
 use lib.ListN.{length, drop}
 use Rattle.laws.specs.Ranges.{table}
-use Rattle.laws.proofs.Search.{every?}
 use Rattle.curves.specs.Pairs.{Pair, horizon, ceiling, least}
 use Rattle.curves.specs.Questions.{Question, answerTo}
 use Rattle.curves.specs.Theorems.{Closes}
 use Rattle.curves.proofs.Arrival.{closes?}
-pub use Rattle.bounds.specs.Bounds.{maxHorizon, figureLimit}
-
--- 1. The ceiling list has 1 to 256 entries.
-abbrev pub question1 : Pair → Question
-question1 p =
-    record {
-      number = 1;
-      asked = (1 ≤ horizon p) × (horizon p ≤ maxHorizon);
-      answered = Dec·and (decLe 1 (horizon p)) (decLe (horizon p) maxHorizon);
-    }
-
--- 2. The least list has as many.
-abbrev pub question2 : Pair → Question
-question2 p = record { number = 2; asked = length (p .lower) ≡ horizon p; answered = ℕ-discrete (length (p .lower)) (horizon p) }
+use Rattle.bounds.specs.Bounds.{question1, question2, question4}
 
 -- 3. Neither result list, as found, has fewer.
 abbrev pub question3 : Pair → Pair → Question
@@ -33,18 +19,6 @@ question3 p found =
       number = 3;
       asked = (horizon p ≤ length (found .upper)) × (horizon p ≤ length (found .lower));
       answered = Dec·and (decLe (horizon p) (length (found .upper))) (decLe (horizon p) (length (found .lower)));
-    }
-
--- 4. No figure is above the limit.
-abbrev pub WithinLimit : Pair → ℕ → Type 0
-WithinLimit p d = (ceiling p d ≤ figureLimit) × (least p d ≤ figureLimit)
-
-abbrev pub question4 : Pair → Question
-question4 p =
-    record {
-      number = 4;
-      asked = (d : ℕ) → 1 ≤ d → d ≤ horizon p → WithinLimit p d;
-      answered = every? (WithinLimit p) (horizon p) (λ d. Dec·and (decLe (ceiling p d) figureLimit) (decLe (least p d) figureLimit));
     }
 
 -- 5. The rounds arrive at a closure. They do or they do not: theorem 1.

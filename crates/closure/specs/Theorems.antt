@@ -3,13 +3,14 @@ use Prim.Native.Nat.{ℕ, _≤_}
 use mathlib.Core.Path.{_≡_}
 use mathlib.Core.List.{List, [], _∷_}
 use mathlib.Core.Logic.{_↔_, _⊎_}
-use lib.ListN.{length, take}
+use lib.ListN.{length}
 use Rattle.curves.specs.Streams.{Stream, Begins, sum}
-use Rattle.curves.specs.Pairs.{Pair, horizon, ceiling, least, Equal}
+use Rattle.curves.specs.Pairs.{Pair, horizon, first, ceiling, least, Equal}
 use Rattle.curves.specs.Conformance.{Conforms, Conforms∞, MetIn}
 use Rattle.curves.specs.Rounds.{whole, Arrives, Causal}
 use Rattle.curves.specs.Questions.{AllYes, FirstNo}
-use Rattle.closure.specs.Closing.{question1, question2, question3, question4, questions, refused, closed, closing}
+use Rattle.bounds.specs.Bounds.{question1, question2, question4, pairQuestions}
+use Rattle.closure.specs.Closing.{question3, questions, refused, closed, closing}
 
 -- The lists pass questions 1 to 4: those of the pair p, with result lists found to hold `found`.
 abbrev pub Passes : Pair → Pair → Type 0
@@ -20,11 +21,7 @@ abbrev pub GivesClosure : Pair → Pair → Type 0
 GivesClosure p found = closing p found .number ≡ 0
 
 abbrev pub closureOf : Pair → Pair → Pair
-closureOf p found =
-    record {
-      upper = take (horizon p) (closing p found .results .upper);
-      lower = take (horizon p) (closing p found .results .lower);
-    }
+closureOf p found = first (horizon p) (closing p found .results)
 
 -- ---- 1. Demand 2, its last sentence. What the rounds arrive at is given, with their count; and what is given, they arrive at.
 abbrev pub GivesWhatArrives : Type 0
@@ -88,9 +85,7 @@ abbrev pub GivenIsCausal : Type 0
 GivenIsCausal = (p found : Pair) → GivesClosure p found → Causal (closureOf p found)
 
 abbrev pub GivenPasses : Type 0
-GivenPasses =
-    (p found : Pair) → GivesClosure p found
-    → AllYes (question1 (closureOf p found) ∷ question2 (closureOf p found) ∷ question4 (closureOf p found) ∷ [])
+GivenPasses = (p found : Pair) → GivesClosure p found → AllYes (pairQuestions (closureOf p found))
 
 abbrev pub ClosedAgain : Type 0
 ClosedAgain =

@@ -8,10 +8,11 @@ use lib.ListN.{length, drop, length-map}
 use Rattle.curves.specs.Pairs.{Pair, pairOf}
 use Rattle.curves.specs.Questions.{AllYes, FirstNo}
 use Rattle.curves.proofs.Asked.{yes-append, no-before, no-after}
-use Rattle.closure.specs.Closing.{maxHorizon}
+use Rattle.bounds.specs.Bounds.{maxHorizon}
 use Rattle.csv.specs.Text.{Bytes, records}
 use Rattle.csv.proofs.Splitting.{records-first, record-short}
-use Rattle.constraints.specs.Constraints.{constraintOf, largestWindow, messageLimit}
+use Rattle.csv.specs.Records.{constraintOf, messageLimit}
+use Rattle.constraints.specs.Constraints.{largestWindow}
 use Rattle.constraints.specs.Reading.{later, constraints, horizonOf, question6, question10, question11}
 use Rattle.constraints.specs.Reading.{recordQuestions, questions, refused, given, reading}
 use Rattle.constraints.specs.Answers.{answer}

@@ -14,11 +14,13 @@ use Rattle.curves.specs.Questions.{AllYes, FirstNo, result, refusal}
 use Rattle.curves.proofs.Asked.{no-before}
 use Rattle.csv.specs.Text.{Bytes, records}
 use Rattle.csv.proofs.Splitting.{rest-is, records-first, record-short}
-use Rattle.records.specs.Records.{triple, firstRecord}
+use Rattle.csv.specs.Records.{triple, firstRecord}
 use Rattle.records.specs.Recording.{spelt, recording}
 use Rattle.records.proofs.Said.{refused-iff, given-from}
-use Rattle.constraints.specs.Constraints.{Constraint, constraintOf, InRange, New}
-use Rattle.constraints.specs.Reading.{question7, question8, question9, recordQuestions}
+use Rattle.csv.specs.Records.{Constraint, constraintOf, InRange}
+use Rattle.constraints.specs.Constraints.{New}
+use Rattle.records.specs.Recording.{question7, question8}
+use Rattle.constraints.specs.Reading.{question9, recordQuestions}
 use Rattle.constraints.specs.Steps.{Holds, with}
 use Rattle.constraints.specs.declared.table.Table.{Table}
 use Rattle.constraints.proofs.Tables.{holds-more, names-told}

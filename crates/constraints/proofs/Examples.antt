@@ -9,8 +9,8 @@ use Rattle.curves.specs.Pairs.{Pair, pairOf}
 use Rattle.curves.specs.Questions.{ask}
 use Rattle.csv.specs.Text.{Bytes, comma, crlf, header, records, fields}
 use Rattle.csv.specs.Numbers.{valueAfter}
-use Rattle.records.specs.Records.{triple}
-use Rattle.records.specs.Decisions.{digit?, numeral?, wellFormed?, inRange?}
+use Rattle.csv.specs.Records.{triple}
+use Rattle.csv.proofs.Decisions.{digit?, numeral?, wellFormed?, inRange?}
 use Rattle.constraints.specs.Reading.{refused, reading}
 use Rattle.constraints.specs.Constraints.{named, filled}
 

@@ -8,8 +8,9 @@ use lib.ListN.{length, getD, take}
 use Rattle.curves.specs.Questions.{Question, AllYes, FirstNo}
 use Rattle.curves.proofs.Asked.{no-parts, no-before, no-after}
 use Rattle.csv.specs.Text.{Bytes}
-use Rattle.constraints.specs.Constraints.{Constraint, constraintOf}
-use Rattle.constraints.specs.Reading.{later, question6, question7, question8, question9, recordQuestions}
+use Rattle.csv.specs.Records.{Constraint, constraintOf}
+use Rattle.records.specs.Recording.{question7, question8}
+use Rattle.constraints.specs.Reading.{later, question6, question9, recordQuestions}
 use Rattle.constraints.specs.Reading.{question10, question11, refused, reading}
 use Rattle.constraints.specs.Theorems.{FirstFaulty, RefusedIffFirstFaulty}
 use Rattle.constraints.proofs.Said.{refused-iff-first-no}

@@ -11,9 +11,10 @@ use borrow.Author.Tests.{eq-eqb, ne-eqb}
 use Rattle.laws.specs.Tests.{Each}
 use Rattle.laws.proofs.Tests.{each-map}
 use Rattle.curves.specs.Questions.{AllYes}
-use Rattle.closure.specs.Closing.{maxHorizon}
+use Rattle.bounds.specs.Bounds.{maxHorizon}
 use Rattle.csv.specs.Text.{Bytes}
-use Rattle.constraints.specs.Constraints.{Constraint, WellFormed, constraintOf, messageLimit, InRange, New}
+use Rattle.csv.specs.Records.{Constraint, WellFormed, constraintOf, messageLimit, InRange}
+use Rattle.constraints.specs.Constraints.{New}
 use Rattle.constraints.specs.Constraints.{named, largestWindow, smallestMost}
 use Rattle.constraints.specs.Reading.{recordQuestions}
 

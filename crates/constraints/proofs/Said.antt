@@ -12,7 +12,7 @@ use Rattle.curves.specs.Pairs.{Pair}
 use Rattle.curves.specs.Questions.{Question, AllYes, FirstNo}
 use Rattle.curves.proofs.Asked.{said-no, said-yes, yes-parts, Positive, no-iff, yes-iff}
 use Rattle.csv.specs.Text.{Bytes}
-use Rattle.constraints.specs.Constraints.{Constraint, constraintOf}
+use Rattle.csv.specs.Records.{Constraint, constraintOf}
 use Rattle.constraints.specs.Reading.{later, horizonOf, recordQuestions, question10, question11, questions, refused, given, reading}
 use Rattle.constraints.specs.Theorems.{RefusedIffFirstNo, PairIffAllYes, GivesPair, GivenIsTextPair}
 

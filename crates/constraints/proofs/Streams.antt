@@ -15,13 +15,13 @@ use Rattle.curves.specs.Streams.{sum}
 use Rattle.curves.specs.Pairs.{Pair, figure, horizon, ceiling, least}
 use Rattle.curves.specs.Conformance.{Conforms∞}
 use Rattle.curves.specs.Questions.{AllYes}
-use Rattle.closure.specs.Closing.{maxHorizon, question1, question2, question4, WithinLimit}
+use Rattle.bounds.specs.Bounds.{figureLimit, Bounded, pairQuestions}
 use Rattle.csv.specs.Text.{Bytes}
 use Rattle.constraints.specs.Reading.{later, constraints, textPair, recordQuestions}
 use Rattle.constraints.specs.Theorems.{GivesPair, givenPair, GivenPasses, KeepsIffConforms}
 use Rattle.constraints.proofs.Said.{gives-asked, given-is-text-pair}
-use Rattle.constraints.specs.Constraints.{Constraint, constraintOf, messageLimit, InRange, named}
-use Rattle.constraints.specs.Constraints.{largestWindow, smallestMost, filled, Keeps}
+use Rattle.csv.specs.Records.{Constraint, constraintOf, messageLimit, InRange}
+use Rattle.constraints.specs.Constraints.{named, largestWindow, smallestMost, filled, Keeps}
 use Rattle.constraints.proofs.Named.{named-own, named-or-not, in-range, window-largest, largest-some, largest-bound, smallest-bound}
 
 -- ---- the figures of a filled pair
@@ -144,31 +144,36 @@ module _ (cs : List Constraint) (ok : Each InRange cs) (n : 1 ≤ length cs) whe
   abbrev whole : Pair
   whole = filled (largestWindow cs) cs
 
-  within : (d : ℕ) → 1 ≤ d → d ≤ largestWindow cs → WithinLimit whole d
-  within d p q =
+  named-bounded
+      : (what : Constraint → ℕ) (other d : ℕ) → ((c : Constraint) → InRange c → what c ≤ messageLimit) → other ≤ figureLimit
+      → named what other cs d ≤ figureLimit
+  named-bounded what other d h o =
       ⊎-elim
-      (λ f. (
-        omega (arith, filled-ceiling cs d p q, f .3 (λ c. c .most) (d * smallestMost cs), f .1 .most),
-        omega (arith, filled-least cs d p q, f .3 (λ c. c .least) 0, f .1 .least),
-      ))
-      (λ f. (
-        omega (arith, filled-ceiling cs d p q, f (λ c. c .most) (d * smallestMost cs), product),
-        omega (arith, filled-least cs d p q, f (λ c. c .least) 0),
-      ))
+      (λ f. omega (arith, f .3 what other, h (f .0) (f .1)))
+      (λ f. omega (arith, f what other))
       (named-or-not InRange cs d ok)
-    where
-      product : d * smallestMost cs ≤ maxHorizon * messageLimit
-      product = mul-le-mul (le-trans q (largest-bound cs ok)) (smallest-bound cs)
 
-  filled-passes : AllYes (question1 whole ∷ question2 whole ∷ question4 whole ∷ [])
+  uppers-bounded : Bounded (whole .upper)
+  uppers-bounded d p q =
+      let within : d ≤ largestWindow cs = omega (arith, q, filled-horizon cs) in
+      let product = mul-le-mul (le-trans within (largest-bound cs ok)) (smallest-bound cs) in
+      omega (arith, filled-ceiling cs d p within, named-bounded (λ c. c .most) (d * smallestMost cs) d (λ c r. r .most) product)
+
+  lowers : length (whole .lower) ≡ largestWindow cs
+  lowers = length-table (named (λ c. c .least) 0 cs) (largestWindow cs)
+
+  lowers-bounded : Bounded (whole .lower)
+  lowers-bounded d p q =
+      omega (arith, filled-least cs d p (omega (arith, q, lowers)), named-bounded (λ c. c .least) 0 d (λ c r. r .least) (omega arith))
+
+  filled-passes : AllYes (pairQuestions whole)
   filled-passes =
-      let uppers = filled-horizon cs in
-      let lowers : length (whole .lower) ≡ largestWindow cs = length-table (named (λ c. c .least) 0 cs) (largestWindow cs) in (
+      let uppers = filled-horizon cs in (
         (omega (arith, uppers, largest-some cs ok n), omega (arith, uppers, largest-bound cs ok)),
-        (lowers ∙ sym uppers, (λ d p q. within d p (omega (arith, q, uppers)), tt)),
+        (lowers ∙ sym uppers, ((uppers-bounded, lowers-bounded), tt)),
       )
 
 pub given-passes : GivenPasses
 given-passes t found g =
-    subst (λ (p : Pair). AllYes (question1 p ∷ question2 p ∷ question4 p ∷ [])) (sym (given-is-text-pair t found g .1))
+    subst (λ (p : Pair). AllYes (pairQuestions p)) (sym (given-is-text-pair t found g .1))
     (filled-passes (constraints t) (ranged t found g) (some t found g))

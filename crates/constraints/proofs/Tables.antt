@@ -12,8 +12,9 @@ use lib.ListN.{getD, set, replicate}
 use Rattle.laws.specs.Ranges.{table}
 use Rattle.laws.specs.Tests.{Either}
 use Rattle.laws.proofs.Table.{getD-table, table-ext, table-set, table-same-entry}
-use Rattle.closure.specs.Closing.{maxHorizon}
-use Rattle.constraints.specs.Constraints.{Constraint, InRange, New, named, largestWindow, smallestMost, messageLimit}
+use Rattle.bounds.specs.Bounds.{maxHorizon}
+use Rattle.csv.specs.Records.{Constraint, InRange, messageLimit}
+use Rattle.constraints.specs.Constraints.{New, named, largestWindow, smallestMost}
 use Rattle.constraints.specs.Steps.{Holds, with, ceilingIn, leastIn}
 use Rattle.constraints.specs.declared.table.Table.{Table}
 

@@ -8,8 +8,7 @@ use Rattle.laws.specs.Ranges.{table}
 use Rattle.laws.specs.Tests.{Each}
 use Rattle.curves.specs.Streams.{sum}
 use Rattle.curves.specs.Pairs.{Pair, pairOf}
--- A constraint, and the record that spells it: its form, its figures and their range.
-pub use Rattle.records.specs.Records.{Constraint, WellFormed, constraintOf, messageLimit, InRange}
+use Rattle.csv.specs.Records.{Constraint, messageLimit}
 
 -- The constraint's window is named by none of the earlier ones.
 abbrev pub New : List Constraint → Constraint → Type 0

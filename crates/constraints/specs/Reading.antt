@@ -1,4 +1,5 @@
--- Reading (document 01, "Triples as CSV text" and questions 6 to 11): text in, two lists lent for results.
+-- Reading (document 01, "Triples as CSV text" and questions 6 to 11): text in, two lists lent for results. Questions 7 and 8 are those of a
+-- record.
 use Prim.Native.Nat.{ℕ, _≤_}
 use mathlib.Core.Path.{_≡_}
 use mathlib.Core.List.{List, [], _∷_, _++_, map}
@@ -9,9 +10,9 @@ use Rattle.laws.proofs.Tests.{each?, equal-lists?}
 use Rattle.curves.specs.Pairs.{Pair}
 use Rattle.curves.specs.Questions.{Question, answerTo}
 use Rattle.csv.specs.Text.{Bytes, header, records}
-use Rattle.constraints.specs.Constraints.{Constraint, constraintOf, New, largestWindow, filled}
--- 7 and 8: the record's form, and that its figures are in range.
-pub use Rattle.records.specs.Recording.{question7, question8}
+use Rattle.csv.specs.Records.{Constraint, constraintOf}
+use Rattle.constraints.specs.Constraints.{New, largestWindow, filled}
+use Rattle.records.specs.Recording.{question7, question8}
 
 -- The longest text.
 abbrev pub textLimit : ℕ

@@ -7,9 +7,10 @@ use lib.ListN.{length, getD, set, drop}
 use Rattle.laws.specs.Ranges.{table}
 use Rattle.curves.specs.Pairs.{Pair, pairOf}
 use Rattle.curves.specs.Questions.{AllYes, FirstNo}
-use Rattle.closure.specs.Closing.{maxHorizon}
+use Rattle.bounds.specs.Bounds.{maxHorizon}
 use Rattle.csv.specs.Text.{Bytes}
-use Rattle.constraints.specs.Constraints.{Constraint, constraintOf, named, largestWindow, smallestMost}
+use Rattle.csv.specs.Records.{Constraint, constraintOf}
+use Rattle.constraints.specs.Constraints.{named, largestWindow, smallestMost}
 use Rattle.constraints.specs.Reading.{recordQuestions}
 use Rattle.constraints.specs.declared.Reading.{Reading}
 use Rattle.constraints.specs.declared.Reading.the-variants.{Read, HeaderLine, RecordForm, FigureRange, WindowAgain}

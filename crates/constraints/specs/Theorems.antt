@@ -6,14 +6,16 @@ use mathlib.Core.Logic.{_↔_}
 use lib.ListN.{length, getD, take}
 use Rattle.laws.specs.Tests.{Each}
 use Rattle.curves.specs.Streams.{Stream}
-use Rattle.curves.specs.Pairs.{Pair}
+use Rattle.curves.specs.Pairs.{Pair, first}
 use Rattle.curves.specs.Conformance.{Conforms∞}
 use Rattle.curves.specs.Questions.{Question, AllYes, FirstNo}
-use Rattle.closure.specs.Closing.{question1, question2, question4}
+use Rattle.bounds.specs.Bounds.{pairQuestions}
 use Rattle.csv.specs.Text.{Bytes}
-use Rattle.constraints.specs.Constraints.{constraintOf, Keeps}
-use Rattle.constraints.specs.Reading.{later, constraints, horizonOf, textPair, question6, question7, question8}
-use Rattle.constraints.specs.Reading.{question9, questions, refused, reading}
+use Rattle.csv.specs.Records.{constraintOf}
+use Rattle.records.specs.Recording.{question7, question8}
+use Rattle.constraints.specs.Constraints.{Keeps}
+use Rattle.constraints.specs.Reading.{later, constraints, horizonOf, textPair, question6, question9}
+use Rattle.constraints.specs.Reading.{questions, refused, reading}
 
 -- ---- Demand 1: refused with n exactly when question n is the first that is answered no; else a pair is given.
 abbrev pub GivesPair : Bytes → Pair → Type 0
@@ -44,11 +46,7 @@ RefusedIffFirstFaulty =
 
 -- ---- the pair that is given: the first H entries of the result lists
 abbrev pub givenPair : Bytes → Pair → Pair
-givenPair t found =
-    record {
-      upper = take (reading t found .horizon) (reading t found .results .upper);
-      lower = take (reading t found .horizon) (reading t found .results .lower);
-    }
+givenPair t found = first (reading t found .horizon) (reading t found .results)
 
 abbrev pub GivenIsTextPair : Type 0
 GivenIsTextPair =
@@ -56,9 +54,7 @@ GivenIsTextPair =
 
 -- It passes closing's questions 1, 2 and 4.
 abbrev pub GivenPasses : Type 0
-GivenPasses =
-    (t : Bytes) (found : Pair) → GivesPair t found
-    → AllYes (question1 (givenPair t found) ∷ question2 (givenPair t found) ∷ question4 (givenPair t found) ∷ [])
+GivenPasses = (t : Bytes) (found : Pair) → GivesPair t found → AllYes (pairQuestions (givenPair t found))
 
 -- ---- The unbounded streams that conform to it are those that keep every constraint of the text: filling adds nothing.
 abbrev pub KeepsIffConforms : Type 0

@@ -5,8 +5,8 @@ ghost use mathlib.Core.List.{[]};
 ghost use Prim.Native.Nat.{_≤_, min, max};
 ghost use lib.ListN.{length};
 ghost use Rattle.curves.specs.Pairs.{pairOf};
-ghost use Rattle.closure.specs.Closing.{maxHorizon};
-ghost use Rattle.constraints.specs.Constraints.{messageLimit};
+ghost use Rattle.bounds.specs.Bounds.{maxHorizon};
+ghost use Rattle.csv.specs.Records.{messageLimit};
 ghost use Rattle.constraints.specs.Steps.{Holds, with, ceilingIn, filledFrom};
 
 // The longest window.

@@ -1,5 +1,6 @@
--- Laws of the layout: splitting, putting together, and numbers as text. Assumes nothing.
+-- Laws of the layout: splitting, putting together, numbers as text, and that form and range can be decided. Assumes nothing.
 pub mod Splitting
 pub mod Joining
 pub mod Numbers
+pub mod Decisions
 mod Examples

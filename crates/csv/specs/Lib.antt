@@ -1,3 +1,4 @@
--- The layout of constraint text: records and fields, and the numbers in them.
+-- The layout of constraint text: records and fields, the numbers in them, and the constraint that a record spells.
 pub mod Text
 pub mod Numbers
+pub mod Records

@@ -2,7 +2,7 @@
 use Prim.Native.Nat.{ℕ, zero, suc, _-_, _+_, _≤_}
 use mathlib.Core.Path.{_≡_}
 use mathlib.Core.List.{List}
-use lib.ListN.{length, getD}
+use lib.ListN.{length, getD, take}
 use Rattle.laws.specs.Ranges.{fold}
 
 -- Two lists of figures, numbers of the kind N: entry 0 is that of the window of one tick.
@@ -34,6 +34,10 @@ Pair = Curves ℕ
 -- Ceilings first, then leasts.
 abbrev pub pairOf : List ℕ → List ℕ → Pair
 pairOf us ls = record { upper = us; lower = ls }
+
+-- The pair in the first h entries of two lists, as those that are lent for results.
+abbrev pub first : ℕ → Pair → Pair
+first h c = pairOf (take h (c .upper)) (take h (c .lower))
 
 -- The ceiling (most) and the least of a window of d ticks.
 abbrev pub ceiling : Pair → ℕ → ℕ

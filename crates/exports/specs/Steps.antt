@@ -1,6 +1,6 @@
 -- What the private functions of this crate promise each other. No public promise cites anything of it.
 use Prim.Native.Nat.{ℕ, _≤_}
-use Rattle.closure.specs.Closing.{maxHorizon}
+use Rattle.bounds.specs.Bounds.{maxHorizon}
 use Rattle.closure.specs.declared.Closing.{Closing}
 use Rattle.closure.specs.declared.Closing.the-variants as closing
 use Rattle.constraints.specs.declared.Reading.{Reading}

@@ -14,7 +14,7 @@ use Rattle.curves.specs.Ticks.{then, last, Keeps}
 use Rattle.curves.specs.Questions.{result}
 use Rattle.curves.proofs.NextTick.{last-none, last-more, length-then, last-next, range-from, no-range}
 use Rattle.curves.proofs.Verdicts.{KeptTo, kept-none, kept-more}
-use Rattle.closure.specs.Closing.{figureLimit}
+use Rattle.bounds.specs.Bounds.{figureLimit}
 use Rattle.history.specs.States.{View, Legal}
 use Rattle.history.specs.Steps.{Slices}
 use Rattle.history.proofs.Slicing.{judged-next}

@@ -8,7 +8,7 @@ use Rattle.curves.specs.Ticks.{then, Judged, Keeps, Range}
 use Rattle.curves.specs.Questions.{Reply, result, refusal}
 use Rattle.curves.proofs.Asked.{said-no, said-yes, no-refusal, same-result, result-from}
 use Rattle.curves.proofs.NextTick.{last-none, length-then, last-next, range-once}
-use Rattle.closure.specs.Closing.{figureLimit}
+use Rattle.bounds.specs.Bounds.{figureLimit}
 use Rattle.history.specs.States.{View, viewOf, Legal}
 use Rattle.generator.specs.declared.Generator.{Generator}
 use Rattle.generator.specs.declared.Sent.{Sent}
@@ -49,7 +49,7 @@ count-limited v l x k =
       k 1 alone .0,
       last-next (v .held) x 0 (omega arith),
       last-none (v .held),
-      l .figures 1 (le-refl 1) (l .lengths .0) .0,
+      l .figures .0 1 (le-refl 1) (l .lengths .0),
     )
   where
     alone : Judged (v .pair) (then (v .held) x) 1

@@ -3,7 +3,7 @@ use Prim.Native.Nat.{ℕ, suc, _-_, _≤_, _<_}
 use mathlib.Core.Path.{_≡_}
 use mathlib.Core.Logic.{_↔_}
 use Rattle.curves.specs.Ticks.{then, Keeps}
-use Rattle.closure.specs.Closing.{figureLimit}
+use Rattle.bounds.specs.Bounds.{figureLimit}
 use Rattle.history.specs.States.{View, Legal}
 use Rattle.generator.specs.declared.Admissible.{Admissible}
 use Rattle.generator.specs.declared.Admissible.the-variants as admissible

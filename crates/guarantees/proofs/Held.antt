@@ -11,7 +11,8 @@ use Rattle.curves.specs.Questions.{result}
 use Rattle.curves.proofs.Asked.{result-from}
 use Rattle.curves.proofs.Verdicts.{length-newest, then-newest, newest-newest}
 use Rattle.history.specs.States.{View, added, Legal}
-use Rattle.history.specs.Opening.{openingQuestions, opening, fresh}
+use Rattle.bounds.specs.Bounds.{pairQuestions}
+use Rattle.history.specs.Opening.{opening, fresh}
 
 -- The state after the stream xs.
 abbrev pub heldOf : Pair → List ℕ → View
@@ -31,7 +32,7 @@ held-added p xs x =
 pub held-legal : (p : Pair) → opening p ≡ result tt → (xs : List ℕ) → Legal (heldOf p xs)
 unfolding opening
 held-legal p o xs =
-    let (ys, e) = result-from (openingQuestions p) _ tt o in
+    let (ys, e) = result-from (pairQuestions p) _ tt o in
     record { lengths = ys .0; figures = ys .1 .1 .0; fewer = fewer (ys .0 .0) }
   where
     fewer : 1 ≤ horizon p → length (newest (horizon p - 1) xs) < horizon p
@@ -39,4 +40,4 @@ held-legal p o xs =
 
 pub opened-positive : (p : Pair) → opening p ≡ result tt → 1 ≤ horizon p
 unfolding opening
-opened-positive p o = result-from (openingQuestions p) _ tt o .0 .0 .0
+opened-positive p o = result-from (pairQuestions p) _ tt o .0 .0 .0

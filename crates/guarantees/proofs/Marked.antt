@@ -28,13 +28,14 @@ use Rattle.closure.specs.Theorems.{Passes}
 use Rattle.closure.proofs.Said.{refused-is, closed-is, fifth}
 use Rattle.csv.specs.Text.{Bytes, records, fields}
 use Rattle.csv.specs.Numbers.{valueAfter}
-use Rattle.records.specs.Decisions.{digit?, numeral?, wellFormed?, inRange?}
+use Rattle.csv.proofs.Decisions.{digit?, numeral?, wellFormed?, inRange?}
 use Rattle.constraints.specs.Constraints.{named}
 use Rattle.constraints.specs.Reading.{later, horizonOf, textPair, question6, recordQuestions, question10, question11}
 use Rattle.constraints.specs.Theorems.{GivesPair, givenPair}
 use Rattle.constraints.proofs.Said.{pair-iff-all-yes, given-is-text-pair}
 use Rattle.history.specs.States.{legal?}
-use Rattle.history.specs.Opening.{openingQuestions, opening, fresh}
+use Rattle.bounds.specs.Bounds.{pairQuestions}
+use Rattle.history.specs.Opening.{opening, fresh}
 use Rattle.monitor.specs.Monitoring.{Ruling, judged, alreadyFailed, judging}
 use Rattle.monitor.specs.Runs.{rulings}
 use Rattle.generator.specs.Generating.{Bounds, looking, sentFrom}
@@ -45,12 +46,12 @@ use Rattle.guarantees.proofs.Monitoring.{conforms-iff-all-pass}
 
 -- Questions 1, 2 and 4, which the result lists have no part in.
 opens? : Pair → Bool
-opens? p = left? (ask (openingQuestions p))
+opens? p = left? (ask (pairQuestions p))
 
 opens : (p found : Pair) → T (opens? p) → horizon p ≤ length (found .upper) → horizon p ≤ length (found .lower) → Passes p found
 unfolding opens?
 opens p found t u l =
-    let ys = left (ask (openingQuestions p)) t in
+    let ys = left (ask (pairQuestions p)) t in
     (ys .0, (ys .1 .0, ((u, l), (ys .1 .1 .0, tt))))
 
 -- Questions 6 to 10, which the result lists have no part in, and the text's pair.
@@ -118,7 +119,7 @@ unfolding goes-on? opens? opening
 goes-on-computed p xs a t =
     let (ok, t₁) = both (opens? p) _ t in
     let (pass, look) = both (all-passed? (rulings (unfailed (fresh p)) xs)) _ t₁ in
-    let o : opening p ≡ result tt = said-yes (openingQuestions p) _ refusal (result tt) (left (ask (openingQuestions p)) ok) (λ ys. refl) in
+    let o : opening p ≡ result tt = said-yes (pairQuestions p) _ refusal (result tt) (left (ask (pairQuestions p)) ok) (λ ys. refl) in
     let l : looking (addedAll (fresh p) xs) ≡ a = shown (looking (addedAll (fresh p) xs)) a look in
     (o, conforms-iff-all-pass p o xs .1 (all-passed (rulings (unfailed (fresh p)) xs) pass), l, λ choice. ap (λ r. sentFrom r choice) l)
 

@@ -15,7 +15,8 @@ use Rattle.curves.proofs.Verdicts.{range-newest}
 use Rattle.closure.specs.Theorems.{GivesClosure, closureOf}
 use Rattle.closure.proofs.Promised.{given-passes, given-is-causal, conforms-iff-begins}
 use Rattle.history.specs.States.{viewOf}
-use Rattle.history.specs.Opening.{openingQuestions, opening, Begun}
+use Rattle.bounds.specs.Bounds.{pairQuestions}
+use Rattle.history.specs.Opening.{opening, Begun}
 use Rattle.generator.specs.declared.Generator.{Generator}
 use Rattle.generator.specs.Generating.{Bounds, looking, chosen, sentFrom, sending}
 use Rattle.generator.specs.Answers.{sendingReply}
@@ -28,7 +29,7 @@ use Rattle.guarantees.proofs.Generating.{sent-on, sent-conforms}
 
 closure-opens : (p found : Pair) → GivesClosure p found → opening (closureOf p found) ≡ result tt
 unfolding opening
-closure-opens p found g = said-yes (openingQuestions (closureOf p found)) _ refusal (result tt) (given-passes p found g) (λ ys. refl)
+closure-opens p found g = said-yes (pairQuestions (closureOf p found)) _ refusal (result tt) (given-passes p found g) (λ ys. refl)
 
 pub opens-on-closure : OpensOnClosure
 opens-on-closure p found g o a = a .answer ∙ closure-opens p found g

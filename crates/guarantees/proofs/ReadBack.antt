@@ -13,12 +13,13 @@ use Rattle.laws.proofs.Table.{length-table, map-table, each-table, each-entry, 
 use Rattle.curves.specs.Pairs.{Pair, horizon, figure, ceiling, least}
 use Rattle.curves.specs.Questions.{AllYes}
 use Rattle.curves.proofs.Asked.{yes-append}
-use Rattle.closure.specs.Closing.{maxHorizon}
+use Rattle.bounds.specs.Bounds.{maxHorizon, pairQuestions}
 use Rattle.csv.specs.Text.{Bytes, comma, cr, crlf, header, records, fields}
 use Rattle.csv.specs.Numbers.{Digit, Numeral, value, decimal}
 use Rattle.csv.proofs.Joining.{records-join, fields-join, fields-last}
 use Rattle.csv.proofs.Numbers.{value-decimal, decimal-digits, numeral-decimal}
-use Rattle.constraints.specs.Constraints.{Constraint, WellFormed, constraintOf, messageLimit, InRange, New}
+use Rattle.csv.specs.Records.{Constraint, WellFormed, constraintOf, messageLimit, InRange}
+use Rattle.constraints.specs.Constraints.{New}
 use Rattle.constraints.specs.Constraints.{named, largestWindow, smallestMost, filled}
 use Rattle.constraints.specs.Reading.{later, constraints, horizonOf, textPair, recordQuestions, question10, question11, questions}
 use Rattle.constraints.specs.Theorems.{GivesPair, givenPair}
@@ -26,7 +27,6 @@ use Rattle.constraints.proofs.Named.{named-own, one-more, window-largest, large
 use Rattle.constraints.proofs.Said.{pair-iff-all-yes, given-is-text-pair}
 use Rattle.rendering.proofs.Said.{written-is, written-iff-all-yes, text-fits}
 use Rattle.rendering.specs.Rendering.{line, textOf}
-use Rattle.rendering.specs.Rendering as rendering
 use Rattle.guarantees.specs.ReadBack.{rendered, ReadsBack}
 
 -- ---- a record
@@ -123,7 +123,7 @@ module _ (p : Pair) where
         (each-table _ tripleOf n (λ k _ q e. omega (arith, q, e ∙ ap (λ c. c .window) is))))
 
 -- ---- the pair
-module _ (p : Pair) (ok : AllYes (rendering.questions p))
+module _ (p : Pair) (ok : AllYes (pairQuestions p))
     (small : (d : ℕ) → 1 ≤ d → d ≤ horizon p → (ceiling p d ≤ messageLimit) × (least p d ≤ messageLimit)) where
   rows : AllYes (recordQuestions [] (table (rowOf p) (horizon p)))
   rows = rows-yes p (horizon p) (ok .0 .1) small (horizon p) (le-refl (horizon p))
@@ -184,7 +184,7 @@ reads-back p found e small u l =
     let text : rendered p ≡ textOf p = ap (λ a. take (a .length) (a .bytes)) (written-is p ok) ∙ take-append-seam (textOf p) _ in
     subst (λ (t : Bytes). GivesPair t found × (givenPair t found ≡ p)) (sym text) (gives ok)
   where
-    gives : AllYes (rendering.questions p) → GivesPair (textOf p) found × (givenPair (textOf p) found ≡ p)
+    gives : AllYes (pairQuestions p) → GivesPair (textOf p) found × (givenPair (textOf p) found ≡ p)
     gives ok =
         let g = pair-iff-all-yes (textOf p) found .1 (reads p ok small found u l) in
         (g, given-is-text-pair (textOf p) found g .1 ∙ read-pair p ok small)

@@ -5,7 +5,8 @@ use mathlib.Core.List.{[], _∷_}
 use Rattle.curves.specs.Questions.{Reply, result, refusal}
 use Rattle.curves.proofs.Asked.{no-refusal, refusal-iff}
 use Rattle.history.specs.States.{question12}
-use Rattle.history.specs.Opening.{openingQuestions, opening}
+use Rattle.bounds.specs.Bounds.{pairQuestions}
+use Rattle.history.specs.Opening.{opening}
 use Rattle.monitor.specs.Monitoring.{judging, MonitorNext}
 use Rattle.generator.specs.Generating.{lookQuestions, Bounds, looking, sentFrom, GeneratorNext}
 use Rattle.guarantees.specs.Total.{OpeningRefused, JudgingRefused, LookingRefused, SendingRefused, RefusedMonitorStays}
@@ -13,7 +14,7 @@ use Rattle.guarantees.specs.Total.{RefusedGeneratorStays}
 
 pub opening-refused : OpeningRefused
 unfolding opening
-opening-refused p n = refusal-iff (openingQuestions p) _ n
+opening-refused p n = refusal-iff (pairQuestions p) _ n
 
 pub judging-refused : JudgingRefused
 unfolding judging

@@ -4,7 +4,7 @@ use mathlib.Core.Path.{_≡_}
 use lib.ListN.{length, take}
 use Rattle.curves.specs.Pairs.{Pair, horizon, ceiling, least}
 use Rattle.csv.specs.Text.{Bytes}
-use Rattle.constraints.specs.Constraints.{messageLimit}
+use Rattle.csv.specs.Records.{messageLimit}
 use Rattle.constraints.specs.Theorems.{GivesPair, givenPair}
 use Rattle.rendering.specs.Rendering.{rendering}
 

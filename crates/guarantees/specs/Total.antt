@@ -7,7 +7,8 @@ use mathlib.Core.Logic.{_↔_}
 use Rattle.curves.specs.Pairs.{Pair}
 use Rattle.curves.specs.Questions.{FirstNo, refusal}
 use Rattle.history.specs.States.{View, question12}
-use Rattle.history.specs.Opening.{openingQuestions, opening}
+use Rattle.bounds.specs.Bounds.{pairQuestions}
+use Rattle.history.specs.Opening.{opening}
 use Rattle.monitor.specs.declared.Monitor.{Monitor}
 use Rattle.monitor.specs.declared.Judgement.{Judgement}
 use Rattle.monitor.specs.Monitoring.{MonitorView, judging}
@@ -21,7 +22,7 @@ use Rattle.generator.specs.Promises.{GeneratorTicked}
 
 -- Opening a monitor or a generator: 1, 2, 4.
 abbrev pub OpeningRefused : Type 0
-OpeningRefused = (p : Pair) (n : ℕ) → (opening p ≡ refusal n) ↔ FirstNo (openingQuestions p) n
+OpeningRefused = (p : Pair) (n : ℕ) → (opening p ≡ refusal n) ↔ FirstNo (pairQuestions p) n
 
 -- A tick of the monitor: 12, on a failed state too.
 abbrev pub JudgingRefused : Type 0

@@ -2,9 +2,10 @@
 -- Assumes nothing.
 use Prim.Native.Nat.{ℕ, suc, _+_, _-_, _≤_, _<_}
 use mathlib.Core.Path.{_≡_, refl, sym, ap, _∙_, subst, subst⁻¹}
-use mathlib.Core.List.{List, [], _++_}
-use mathlib.Core.Logic.{inl, inr}
+use mathlib.Core.List.{List, [], _∷_, _++_}
 use native.Mathlib.Numerals.{add-one}
+use types.Run.{OneOf, miss}
+use denote.Enum.Declared.{tagOf}
 use native.Mathlib.Omega.{arith}
 use lib.ListN.{length, getD, set, take, drop, replicate, length-set, length-drop, length-append}
 use lib.Seq.{length-take-le, take-at, take-suc-set, getD-take, getD-drop, ext-getD}
@@ -12,20 +13,23 @@ use Rattle.laws.specs.Ranges.{table}
 use Rattle.laws.proofs.Table.{Filled, stored, later, filled-front, length-table, getD-table, table-self}
 use Rattle.curves.specs.Pairs.{Pair, figure, pairOf, horizon}
 use Rattle.curves.specs.Ticks.{then}
-use Rattle.curves.specs.Questions.{FirstNo, Reply, result, refusal}
+use Rattle.curves.specs.Questions.{AllYes, FirstNo, result, refusal}
 use Rattle.curves.proofs.NextTick.{length-then}
 use Rattle.curves.proofs.Asked.{said-no, said-yes, result-from}
-use Rattle.bounds.specs.Bounds.{Bounded}
-use Rattle.closure.specs.Closing.{maxHorizon, question1, question2, question4}
-use Rattle.closure.proofs.Said.{within-4}
+use Rattle.bounds.specs.Bounds.{Bounded, maxHorizon, question4, pairQuestions}
+use Rattle.bounds.specs.declared.Asked.{Asked}
+use Rattle.bounds.specs.declared.Asked.the-variants.{Passes, UpperLength, LowerLength, FigureLimit}
+use Rattle.bounds.specs.Answers.{Found}
 use Rattle.history.specs.declared.History.{History}
 use Rattle.history.specs.declared.Opening.{Opening}
-use Rattle.history.specs.declared.Opening.the-variants.{Opened, UpperLength, LowerLength, FigureLimit}
+use Rattle.history.proofs.Opening.{the-type}
+use Rattle.history.specs.declared.Opening.the-variants.{Opened}
+use Rattle.history.specs.declared.Opening.the-variants as opening
 use Rattle.history.specs.States.{View, Legal, viewOf, entries, added}
-use Rattle.history.specs.Opening.{openingQuestions, opening, fresh, blank, Begun}
+use Rattle.history.specs.Opening.{opening, fresh, blank, Begun}
 use Rattle.history.specs.Answers.{openingReply}
 use Rattle.history.specs.Promises.{Room}
-use Rattle.history.specs.Steps.{BeginsWhere, Fits, paddedTo, moved, viewWith}
+use Rattle.history.specs.Steps.{openingFor, paddedTo, moved, viewWith}
 
 -- ---- entries that move to the front
 -- A turn of the loop that moves them: the entries from i on are as they were.
@@ -52,13 +56,10 @@ module _ (s : History) where
   held-seen : length (viewOf s .held) ≡ s .held
   held-seen = length-table (figure 0 (s .ticks)) (s .held)
 
-  -- What question 12 says of the sizes.
-  pub legal-sizes : Legal (viewOf s) → (1 ≤ s .horizon) × (s .horizon ≤ maxHorizon) × (s .held < s .horizon)
-  legal-sizes l = (
-    omega (arith, horizon-seen, l .lengths .0),
-    omega (arith, horizon-seen, l .lengths .1),
-    omega (arith, horizon-seen, held-seen, l .fewer),
-  )
+  -- Question 12 leaves room for a tick.
+  pub legal-room : Legal (viewOf s) → Room s
+  legal-room l =
+      record { within = omega (arith, horizon-seen, l .lengths .1); fewer = omega (arith, horizon-seen, held-seen, l .fewer) }
 
   -- And of the figures, where the arrays have one for each window up to the horizon.
   module _ (u : s .horizon ≤ length (s .upper)) (v : s .horizon ≤ length (s .lower)) where
@@ -68,21 +69,18 @@ module _ (s : History) where
     abbrev lowers : List ℕ
     lowers = take (s .horizon) (s .lower)
 
-    alike : length lowers ≡ length uppers
-    alike = length-take-le (s .horizon) (s .lower) v ∙ sym (length-take-le (s .horizon) (s .upper) u)
-
     pair-seen : viewOf s .pair ≡ pairOf uppers lowers
     pair-seen = λ i. pairOf (entries-take (s .horizon) (s .upper) u i) (entries-take (s .horizon) (s .lower) v i)
 
     pub legal-bounded : Legal (viewOf s) → Bounded uppers × Bounded lowers
-    legal-bounded l = within-4 (pairOf uppers lowers) alike .1 (subst (λ (p : Pair). question4 p .asked) pair-seen (l .figures))
+    legal-bounded l = subst (λ (p : Pair). question4 p .asked) pair-seen (l .figures)
 
     pub bounded-legal
-        : 1 ≤ s .horizon → s .horizon ≤ maxHorizon → s .held < s .horizon → Bounded uppers → Bounded lowers → Legal (viewOf s)
-    bounded-legal p q r a b =
+        : Room s → Bounded uppers × Bounded lowers → Legal (viewOf s)
+    bounded-legal r b =
         record {
           lengths = (omega (arith, horizon-seen), omega (arith, horizon-seen));
-          figures = subst⁻¹ (λ (p : Pair). question4 p .asked) pair-seen (within-4 (pairOf uppers lowers) alike .0 (a, b));
+          figures = subst⁻¹ (λ (p : Pair). question4 p .asked) pair-seen b;
           fewer = omega (arith, horizon-seen, held-seen);
         }
 
@@ -173,40 +171,38 @@ pub blank-is
 unfolding blank
 blank-is us ls xs u l x = λ i. freshHistory 0 (u i) (l i) (x i)
 
--- ---- the questions of an opening
+-- ---- the answer of an opening
 module _ (p : Pair) where
-  -- The first that is answered no settles the answer.
-  no-at : (n : ℕ) → FirstNo (openingQuestions p) n → refusal n ≡ opening p
+  -- The first question that is answered no settles it.
+  no-at : (n : ℕ) → FirstNo (pairQuestions p) n → refusal n ≡ opening p
   unfolding opening
-  no-at n f = sym (said-no (openingQuestions p) _ _ n f)
+  no-at n f = sym (said-no (pairQuestions p) _ _ n f)
 
-  -- It is question 1, 2 or 4.
-  pub no-1 : ¬ question1 p .asked → openingReply UpperLength ≡ opening p
-  no-1 n = no-at 1 (inl (refl, n))
-
-  pub no-2 : question1 p .asked → ¬ question2 p .asked → openingReply LowerLength ≡ opening p
-  no-2 y n = no-at 2 (inr (y, inl (refl, n)))
-
-  pub no-4 : question1 p .asked → question2 p .asked → ¬ question4 p .asked → openingReply FigureLimit ≡ opening p
-  no-4 y₁ y₂ n = no-at 4 (inr (y₁, inr (y₂, inl (refl, n))))
-
-  -- All three are answered yes.
-  pub all-yes : question1 p .asked → question2 p .asked → question4 p .asked → openingReply Opened ≡ opening p
+  pub answers : (a : Asked) → Found p a → openingReply (openingFor a) ≡ opening p
   unfolding opening
-  all-yes y₁ y₂ y₄ = sym (said-yes (openingQuestions p) _ _ (result tt) (y₁, (y₂, (y₄, tt))) (λ ys. refl))
+  answers Passes ys = sym (said-yes (pairQuestions p) _ _ (result tt) ys (λ _. refl))
+  answers UpperLength f = no-at 1 f
+  answers LowerLength f = no-at 2 f
+  answers FigureLimit f = no-at 4 f
 
-  -- Where the opening is not refused, the lists are of one length that an array has room for.
-  pub begins-where : (o : Opening) → openingReply o ≡ opening p → BeginsWhere o p
+  -- Where it is not refused, all are answered yes.
+  pub opened-yes : (o : Opening) → o ≡ Opened → openingReply o ≡ opening p → AllYes (pairQuestions p)
   unfolding opening
-  begins-where Opened e =
-      let ys = result-from (openingQuestions p) (λ yeses. tt) tt (sym e) .0 in record { room = ys .0 .1; lowers = ys .1 .0 }
-  begins-where UpperLength e = tt
-  begins-where LowerLength e = tt
-  begins-where FigureLimit e = tt
+  opened-yes o k e = result-from (pairQuestions p) (λ _. tt) tt (sym e ∙ ap openingReply k) .0
 
-  -- What is asked of the lists, where the answer is known.
-  pub opened-fits : (o : Opening) → o ≡ Opened → BeginsWhere o p → Fits p
-  opened-fits o e = subst (λ (x : Opening). BeginsWhere x p) e
+-- The history that is handed out, in the arm where it is not refused, and in the one for all else.
+module _ (p : Pair) (h : History) (o : Opening) (e : openingReply o ≡ opening p) where
+  pub begun-fresh : o ≡ Opened → viewOf h ≡ fresh p → Begun (opening p) p h
+  begun-fresh k v = rw (← e, k) v
+
+  pub begun-blank : OneOf (1 ∷ 2 ∷ 3 ∷ []) (tagOf the-type o) → h ≡ blank → Begun (opening p) p h
+  begun-blank m b = rw (← e) (refused o m)
+    where
+      refused : (o : Opening) → OneOf (1 ∷ 2 ∷ 3 ∷ []) (tagOf the-type o) → Begun (openingReply o) p h
+      refused Opened m = absurd (miss (1 ∷ 2 ∷ 3 ∷ []) 0 tt m)
+      refused opening.UpperLength m = b
+      refused opening.LowerLength m = b
+      refused opening.FigureLimit m = b
 
 -- ---- the history that an opening hands out
 -- It is not refused: the figures are held, and no tick.
@@ -219,7 +215,3 @@ unbegun-is us ls upper lower ticks u l e =
     ((ap (entries (length us)) u ∙ entries-padded us _ (length us) refl) i)
     ((ap (entries (length us)) l ∙ entries-padded ls _ (length us) e) i)
     []
-
--- The answer settles which history it is, under any name of it.
-pub begun-as : (p : Pair) (h : History) (a b : Reply (Unit {0})) → a ≡ b → Begun a p h → Begun b p h
-begun-as p h a b e = subst (λ (x : Reply (Unit {0})). Begun x p h) e

@@ -9,16 +9,12 @@ use lib.Seq.{length-take-le}
 use Rattle.curves.specs.Pairs.{pairOf}
 use Rattle.curves.specs.Ticks.{then, Judged}
 use Rattle.curves.proofs.NextTick.{length-then}
-use Rattle.closure.specs.Closing.{maxHorizon}
+use Rattle.bounds.specs.Bounds.{maxHorizon}
 use Rattle.history.specs.declared.History.{History}
 use Rattle.history.specs.States.{View, viewOf, Legal}
-use Rattle.history.specs.Promises.{Room}
 use Rattle.history.specs.Steps.{Slices, viewWith}
-use Rattle.history.proofs.Histories.{entries-take, legal-sizes}
-
--- A legal history has room for a tick.
-pub legal-room : (h : History) → Legal (viewOf h) → Room h
-legal-room h L = record { within = legal-sizes h L .1; fewer = legal-sizes h L .2 }
+use Rattle.history.proofs.Histories.{entries-take}
+pub use Rattle.history.proofs.Histories.{legal-room}
 
 -- How long the arrays are.
 pub record Arrays (h : History) : Type 0 where
@@ -29,13 +25,13 @@ pub record Arrays (h : History) : Type 0 where
 module _ (h : History) (A : Arrays h) (L : Legal (viewOf h)) where
   -- The arrays have as many entries as are sliced off.
   pub upper-room : h .horizon ≤ length (h .upper)
-  upper-room = omega (arith, A .uppers, legal-sizes h L .1)
+  upper-room = omega (arith, A .uppers, legal-room h L .within)
 
   pub lower-room : h .horizon ≤ length (h .lower)
-  lower-room = omega (arith, A .lowers, legal-sizes h L .1)
+  lower-room = omega (arith, A .lowers, legal-room h L .within)
 
   pub ticks-room : h .held ≤ length (h .ticks)
-  ticks-room = omega (arith, A .held, legal-sizes h L .1, legal-sizes h L .2)
+  ticks-room = omega (arith, A .held, legal-room h L .within, legal-room h L .fewer)
 
   -- So have the slices.
   pub upper-length : h .horizon ≡ length (take (h .horizon) (h .upper))
@@ -51,8 +47,8 @@ module _ (h : History) (A : Arrays h) (L : Legal (viewOf h)) where
   slices =
       record {
         lowers = omega (arith, upper-length, lower-length);
-        within = omega (arith, upper-length, legal-sizes h L .1);
-        fewer = omega (arith, upper-length, ticks-length, legal-sizes h L .2);
+        within = omega (arith, upper-length, legal-room h L .within);
+        fewer = omega (arith, upper-length, ticks-length, legal-room h L .fewer);
       }
 
   -- Together they are the view.

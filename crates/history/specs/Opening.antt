@@ -1,18 +1,15 @@
 -- Opening a monitor or a generator (document 01, questions 1, 2 and 4): two lists in, a state out.
 use mathlib.Core.Path.{_≡_}
-use mathlib.Core.List.{List, [], _∷_}
+use mathlib.Core.List.{[]}
 use lib.ListN.{replicate}
 use Rattle.curves.specs.Pairs.{Pair}
-use Rattle.curves.specs.Questions.{Question, Reply, result, refusal, replyTo}
-use Rattle.closure.specs.Closing.{maxHorizon, question1, question2, question4}
+use Rattle.curves.specs.Questions.{Reply, result, refusal, replyTo}
+use Rattle.bounds.specs.Bounds.{maxHorizon, pairQuestions}
 use Rattle.history.specs.declared.History.{History}
 use Rattle.history.specs.States.{View, viewOf}
 
-abbrev pub openingQuestions : Pair → List Question
-openingQuestions p = question1 p ∷ question2 p ∷ question4 p ∷ []
-
 unfoldable pub opening : Pair → Reply (Unit {0})
-opening p = replyTo (openingQuestions p) (λ yeses. tt)
+opening p = replyTo (pairQuestions p) (λ yeses. tt)
 
 -- No tick is held yet.
 abbrev pub fresh : Pair → View

@@ -2,7 +2,7 @@
 use Prim.Native.Nat.{ℕ, _≤_, _<_}
 use mathlib.Core.Path.{_≡_}
 use Rattle.curves.specs.Pairs.{Pair}
-use Rattle.closure.specs.Closing.{maxHorizon}
+use Rattle.bounds.specs.Bounds.{maxHorizon}
 use Rattle.history.specs.declared.History.{History}
 use Rattle.history.specs.declared.Start.{Start}
 use Rattle.history.specs.States.{viewOf, added}

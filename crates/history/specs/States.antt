@@ -8,7 +8,7 @@ use Rattle.laws.specs.Ranges.{table}
 use Rattle.curves.specs.Pairs.{Pair, pairOf, horizon, figure}
 use Rattle.curves.specs.Ticks.{then, newest}
 use Rattle.curves.specs.Questions.{Question}
-use Rattle.closure.specs.Closing.{question1, question4}
+use Rattle.bounds.specs.Bounds.{question1, question4}
 use Rattle.history.specs.declared.History.{History}
 
 -- The view of a history, and of a generator's state: the pair, and the held ticks in stream order.

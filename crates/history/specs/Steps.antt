@@ -4,23 +4,20 @@ use mathlib.Core.Path.{_≡_}
 use mathlib.Core.List.{List, _++_}
 use lib.ListN.{length, getD, drop, replicate}
 use Rattle.laws.specs.Ranges.{table}
-use Rattle.curves.specs.Pairs.{Pair, pairOf, horizon}
-use Rattle.closure.specs.Closing.{maxHorizon}
+use Rattle.curves.specs.Pairs.{pairOf}
+use Rattle.bounds.specs.Bounds.{maxHorizon}
+use Rattle.bounds.specs.declared.Asked.{Asked}
+use Rattle.bounds.specs.declared.Asked.the-variants as asked
 use Rattle.history.specs.declared.Opening.{Opening}
 use Rattle.history.specs.declared.Opening.the-variants as opening
 use Rattle.history.specs.States.{View}
 
--- Lists of one length that an array has room for.
-pub record Fits (p : Pair) : Type 0 where
-  pub room : horizon p ≤ maxHorizon
-  pub lowers : length (p .lower) ≡ horizon p
-
--- The lists matter where an opening is not refused.
-abbrev pub BeginsWhere : Opening → Pair → Type 0
-BeginsWhere opening.Opened p = Fits p
-BeginsWhere opening.UpperLength p = Unit {0}
-BeginsWhere opening.LowerLength p = Unit {0}
-BeginsWhere opening.FigureLimit p = Unit {0}
+-- What an opening answers to what was found of the lists.
+abbrev pub openingFor : Asked → Opening
+openingFor asked.Passes = opening.Opened
+openingFor asked.UpperLength = opening.UpperLength
+openingFor asked.LowerLength = opening.LowerLength
+openingFor asked.FigureLimit = opening.FigureLimit
 
 -- Figures at the front of an array, and 0 after them.
 abbrev pub paddedTo : List ℕ → List ℕ

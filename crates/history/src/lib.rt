@@ -1,16 +1,18 @@
 // What a monitor and a generator hold: the pair, and the last ticks of the stream.
 
+use bounds::Asked;
 ghost use mathlib.Core.Path.{_≡_};
 ghost use Prim.Native.Nat.{_≤_, _<_};
 ghost use lib.ListN.{length, replicate};
 ghost use Rattle.laws.specs.Tests.{Tells};
 ghost use Rattle.curves.specs.Pairs.{pairOf};
-ghost use Rattle.closure.specs.Closing.{maxHorizon};
+ghost use Rattle.curves.specs.Questions.{AllYes};
+ghost use Rattle.bounds.specs.Bounds.{maxHorizon, pairQuestions};
 ghost use Rattle.history.specs.States.{viewOf, added, Legal};
 ghost use Rattle.history.specs.Opening.{opening, fresh, blank, Begun};
 ghost use Rattle.history.specs.Answers.{openingReply};
 ghost use Rattle.history.specs.Promises.{Started, Room, Pushed};
-ghost use Rattle.history.specs.Steps.{BeginsWhere, Fits, paddedTo, moved};
+ghost use Rattle.history.specs.Steps.{openingFor, paddedTo, moved};
 
 // The longest horizon.
 const MAX_HORIZON: usize = 256;
@@ -59,9 +61,6 @@ impl History {
         ensures { λ r. ⌜ Tells r (Legal (viewOf self)) ⌝ }
     {
         let horizon = self.horizon;
-        if horizon < 1 {
-            return false;
-        }
         if MAX_HORIZON < horizon {
             return false;
         }
@@ -70,13 +69,10 @@ impl History {
         }
         let upper = self.upper;
         let lower = self.lower;
-        if !bounds::within_limit(&upper[..horizon]) {
-            return false;
+        if bounds::within_limit(&upper[..horizon]) {
+            return bounds::within_limit(&lower[..horizon]);
         }
-        if !bounds::within_limit(&lower[..horizon]) {
-            return false;
-        }
-        true
+        false
     }
 
     // The history with one tick more. One that has no room for a tick, as no legal one is, comes back as it is.
@@ -97,41 +93,36 @@ impl History {
 fn ask(ceilings: &[u32], leasts: &[u32]) -> Opening
     ensures { λ r. ⌜ openingReply r ≡ opening (pairOf (now (ceilings .entry)) (now (leasts .entry))) ⌝ }
 {
-    let horizon = ceilings.len();
-    if horizon < 1 {
-        return Opening::UpperLength;
+    opening_for(bounds::ask(ceilings, leasts))
+}
+
+// What an opening answers to what was found of the lists.
+fn opening_for(asked: Asked) -> Opening
+    ensures { λ r. ⌜ r ≡ openingFor asked ⌝ }
+{
+    match asked {
+        Asked::Passes => Opening::Opened,
+        Asked::UpperLength => Opening::UpperLength,
+        Asked::LowerLength => Opening::LowerLength,
+        Asked::FigureLimit => Opening::FigureLimit,
     }
-    if MAX_HORIZON < horizon {
-        return Opening::UpperLength;
-    }
-    if leasts.len() != horizon {
-        return Opening::LowerLength;
-    }
-    if !bounds::within_limit(ceilings) {
-        return Opening::FigureLimit;
-    }
-    if !bounds::within_limit(leasts) {
-        return Opening::FigureLimit;
-    }
-    Opening::Opened
 }
 
 // The history that an opening hands out.
-fn begin(opening: Opening, ceilings: &[u32], leasts: &[u32]) -> History
-    requires { ⌜ BeginsWhere opening (pairOf (now ceilings) (now leasts)) ⌝ }
-    ensures { λ r. ⌜ Begun (openingReply opening) (pairOf (now (ceilings .entry)) (now (leasts .entry))) r ⌝ }
+fn begin(answer: Opening, ceilings: &[u32], leasts: &[u32]) -> History
+    requires { ⌜ openingReply answer ≡ opening (pairOf (now ceilings) (now leasts)) ⌝ }
+    ensures { λ r. ⌜ Begun (opening (pairOf (now (ceilings .entry)) (now (leasts .entry)))) (pairOf (now (ceilings .entry)) (now (leasts .entry)))
+        r ⌝ }
 {
-    match opening {
+    match answer {
         Opening::Opened => unbegun(ceilings, leasts),
-        Opening::UpperLength => zero_history(),
-        Opening::LowerLength => zero_history(),
-        Opening::FigureLimit => zero_history(),
+        _ => zero_history(),
     }
 }
 
 // That of a stream that has not begun.
 fn unbegun(ceilings: &[u32], leasts: &[u32]) -> History
-    requires { ⌜ Fits (pairOf (now ceilings) (now leasts)) ⌝ }
+    requires { ⌜ AllYes (pairQuestions (pairOf (now ceilings) (now leasts))) ⌝ }
     ensures { λ r. ⌜ viewOf r ≡ fresh (pairOf (now (ceilings .entry)) (now (leasts .entry))) ⌝ }
 {
     let horizon = ceilings.len();

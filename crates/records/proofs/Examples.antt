@@ -7,8 +7,8 @@ use Rattle.laws.proofs.Tests.{each?}
 use Rattle.curves.specs.Questions.{ask, result, refusal}
 use Rattle.csv.specs.Text.{comma, crlf, records, fields}
 use Rattle.csv.specs.Numbers.{valueAfter}
-use Rattle.records.specs.Records.{triple, firstRecord}
-use Rattle.records.specs.Decisions.{digit?, numeral?, wellFormed?, inRange?}
+use Rattle.csv.specs.Records.{triple, firstRecord}
+use Rattle.csv.proofs.Decisions.{digit?, numeral?, wellFormed?, inRange?}
 use Rattle.records.specs.Recording.{spelt, recording}
 
 -- `12,0,3` and a record after it: 6 bytes spell the first.

@@ -12,7 +12,7 @@ use Rattle.curves.specs.Questions.{result, refusal}
 use Rattle.csv.specs.Text.{Bytes, fields}
 use Rattle.csv.specs.Numbers.{Digit, Numeral, valueAfter, value}
 use Rattle.csv.proofs.Splitting.{rest-is, fields-first, field-short}
-use Rattle.records.specs.Records.{triple, WellFormed, constraintOf, InRange}
+use Rattle.csv.specs.Records.{triple, WellFormed, constraintOf, InRange}
 use Rattle.records.specs.Recording.{spelt, recording}
 use Rattle.records.specs.Answers.{recordReply}
 use Rattle.records.specs.Steps.{firstField, Numbered, Ranged, Numerals, Figured}

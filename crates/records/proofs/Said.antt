@@ -8,7 +8,7 @@ use lib.ListN.{length}
 use Rattle.curves.specs.Questions.{AllYes, FirstNo, result, refusal}
 use Rattle.curves.proofs.Asked.{said-yes, refusal-iff, result-from}
 use Rattle.csv.specs.Text.{Bytes}
-use Rattle.records.specs.Records.{constraintOf}
+use Rattle.csv.specs.Records.{constraintOf}
 use Rattle.records.specs.Recording.{question7, question8, Spelt, spelt, recording}
 
 module _ (r : Bytes) where

@@ -2,7 +2,7 @@
 use Rattle.curves.specs.Questions.{Reply, result, refusal}
 use Rattle.records.specs.declared.Record.{Record}
 use Rattle.records.specs.declared.Record.the-variants.{Spells, Malformed, OutOfRange}
-use Rattle.records.specs.Records.{triple}
+use Rattle.csv.specs.Records.{triple}
 use Rattle.records.specs.Recording.{Spelt, spelt}
 
 abbrev pub recordReply : Record → Reply Spelt

@@ -1,6 +1,4 @@
--- A record of constraint text: what it stands for, what reading one answers, and what the private functions promise each other.
-pub mod Records
-pub mod Decisions
+-- A record of constraint text: what reading one answers, and what the private functions promise each other.
 pub mod Recording
 pub mod Answers
 pub mod Steps

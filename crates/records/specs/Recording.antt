@@ -4,8 +4,8 @@ use mathlib.Core.List.{[], _∷_}
 use lib.ListN.{length}
 use Rattle.curves.specs.Questions.{Question, Reply, replyTo}
 use Rattle.csv.specs.Text.{Bytes}
-use Rattle.records.specs.Records.{Constraint, WellFormed, constraintOf, InRange}
-use Rattle.records.specs.Decisions.{wellFormed?, inRange?}
+use Rattle.csv.specs.Records.{Constraint, WellFormed, constraintOf, InRange}
+use Rattle.csv.proofs.Decisions.{wellFormed?, inRange?}
 
 -- 7. The record's form.
 abbrev pub question7 : Bytes → Question

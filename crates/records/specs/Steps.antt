@@ -9,7 +9,7 @@ use Rattle.records.specs.declared.Number.{Number}
 use Rattle.records.specs.declared.Number.the-variants.{Value, NoNumeral}
 use Rattle.records.specs.declared.Record.{Record}
 use Rattle.records.specs.declared.Record.the-variants.{Spells, Malformed, OutOfRange}
-use Rattle.records.specs.Records.{triple, InRange}
+use Rattle.csv.specs.Records.{triple, InRange}
 
 -- CR LF stands at the beginning.
 abbrev pub LineEnd : Bytes → Type 0

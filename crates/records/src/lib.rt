@@ -4,7 +4,7 @@ ghost use mathlib.Core.Path.{_≡_};
 ghost use Prim.Native.Nat.{_≤_};
 ghost use lib.ListN.{length, drop};
 ghost use Rattle.laws.specs.Tests.{Tells};
-ghost use Rattle.records.specs.Records.{firstRecord};
+ghost use Rattle.csv.specs.Records.{firstRecord};
 ghost use Rattle.records.specs.Recording.{recording};
 ghost use Rattle.records.specs.Answers.{recordReply};
 ghost use Rattle.records.specs.Steps.{LineEnd, firstField, Numbered, Ranged, Figured};

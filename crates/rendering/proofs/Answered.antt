@@ -1,32 +1,32 @@
 -- What `render` has to show at each of its ends, over plain values. Assumes nothing.
-use Prim.Native.Nat.{ℕ}
+use Prim.Native.Nat.{ℕ, _≤_}
 use mathlib.Core.Path.{_≡_, sym, ap, _∙_}
 use mathlib.Core.List.{[]}
 use native.Mathlib.Nat.{zero-add}
 use lib.ListN.{length}
 use lib.Seq.{sets}
+use Rattle.laws.specs.Writing.{Wrote}
+use Rattle.laws.proofs.Writing.{sets-copies}
 use Rattle.curves.specs.Pairs.{Pair}
-use Rattle.curves.specs.Questions.{AllYes, FirstNo}
+use Rattle.curves.specs.Questions.{FirstNo}
+use Rattle.bounds.specs.Bounds.{pairQuestions}
 use Rattle.csv.specs.Text.{Bytes}
 use Rattle.rendering.specs.declared.Rendering.{Rendering}
 use Rattle.rendering.specs.declared.Rendered.{Rendered}
-use Rattle.rendering.specs.Rendering.{Answer, longest, padded, textOf, questions, rendering}
-use Rattle.rendering.specs.Answers.{answer, numberOf}
-use Rattle.laws.specs.Writing.{Wrote}
-use Rattle.rendering.proofs.Said.{refused-is, written-is, text-fits}
-use Rattle.laws.proofs.Writing.{sets-copies}
+use Rattle.rendering.specs.Rendering.{Answer, longest, padded, written, rendering}
+use Rattle.rendering.specs.Answers.{numberOf, answer}
+use Rattle.rendering.proofs.Said.{refused-is}
 
-module _ (p : Pair) where
-  pub no-is
-      : (r : Rendered) (a : Rendering) → (r .answer ≡ a) × (r .length ≡ 0) × (r .bytes ≡ padded [])
-      → FirstNo (questions p) (numberOf a) → answer r ≡ rendering p
-  no-is r a s f = (λ i. record { number = numberOf (s .0 i); length = s .1 i; bytes = s .2 i }) ∙ sym (refused-is p (numberOf a) f)
+pub refused-as
+    : (p : Pair) (r : Rendered) (a : Rendering) → (r .answer ≡ a) × (r .length ≡ 0) × (r .bytes ≡ padded [])
+    → FirstNo (pairQuestions p) (numberOf a) → answer r ≡ rendering p
+refused-as p r a s f =
+    (λ i. record { number = numberOf (s .0 i); length = s .1 i; bytes = s .2 i }) ∙ sym (refused-is p (numberOf a) f)
 
-  pub yes-is
-      : AllYes (questions p) → (found left : Bytes) (n : ℕ) → found ≡ padded [] → Wrote found 0 (textOf p) left n
-      → _≡_ {A = Answer} (record { number = 0; length = n; bytes = left }) (rendering p)
-  yes-is all found left n e w =
-      (λ i. record { number = 0; length = (w .place ∙ zero-add (length (textOf p))) i; bytes = whole i }) ∙ sym (written-is p all)
-    where
-      whole : left ≡ padded (textOf p)
-      whole = w .entries ∙ ap (λ l. sets l 0 (textOf p)) e ∙ sets-copies 0 longest (textOf p) (text-fits p all)
+-- A text that fits is written into an array of zeros.
+pub written-as
+    : (t found left : Bytes) (n : ℕ) → length t ≤ longest → found ≡ padded [] → Wrote found 0 t left n
+    → _≡_ {A = Answer} (record { number = 0; length = n; bytes = left }) (written t)
+written-as t found left n h e w =
+    let whole = w .entries ∙ ap (λ l. sets l 0 t) e ∙ sets-copies 0 longest t h in
+    λ i. record { number = 0; length = (w .place ∙ zero-add (length t)) i; bytes = whole i }

@@ -9,7 +9,8 @@ use native.Mathlib.Omega.{arith}
 use lib.ListN.{length, getD, length-append}
 use Rattle.laws.specs.Ranges.{fold}
 use Rattle.curves.specs.Pairs.{Pair, horizon, figure, ceiling, least}
-use Rattle.closure.specs.Closing.{figureLimit, question4}
+use Rattle.curves.specs.Questions.{AllYes}
+use Rattle.bounds.specs.Bounds.{figureLimit, pairQuestions}
 use Rattle.csv.specs.Text.{Bytes, header, crlf}
 use Rattle.csv.specs.Numbers.{decimal}
 use Rattle.csv.proofs.Numbers.{decimal-step, decimal-few}
@@ -58,14 +59,14 @@ module _ (p : Pair) where
   unfolding textOf
   text-whole k e = ap (textTo p) (sym e)
 
-  module _ (h : horizon p ≤ 256) (q : question4 p .asked) where
+  module _ (all : AllYes (pairQuestions p)) where
     -- A record with a number up to the window and two figures within the limit has 20 bytes and those of the window, at most.
     record-short : (i w a b : ℕ) → i < horizon p → w ≤ i + 1 → a ≤ figureLimit → b ≤ figureLimit
         → lineLength w a b + (i - 9) + (i - 99) ≤ 21 + (i + 1 - 9) + (i + 1 - 99)
     record-short i w a b l g u v =
         omega (
           arith,
-          window-digits w (i + 1) g (omega arith),
+          window-digits w (i + 1) g (omega (arith, all .0 .1)),
           decimal-few a 8 (omega arith) (omega (arith, u)),
           decimal-few b 8 (omega arith) (omega (arith, v)),
         )
@@ -73,7 +74,8 @@ module _ (p : Pair) where
     -- The figures of the window after the first i.
     pub next-within : (i : ℕ) → i < horizon p → (getD (p .upper) i 0 ≤ figureLimit) × (getD (p .lower) i 0 ≤ figureLimit)
     unfolding figure
-    next-within i l = q (suc i) (omega arith) l
+    next-within i l =
+        let (uppers, lowers) = all .1 .1 .0 in (uppers (suc i) (omega arith) l, lowers (suc i) (omega arith) (omega (arith, all .1 .0)))
 
     text-short : (k : ℕ) → k ≤ horizon p → length (textTo p k) ≤ 19 + 21 * k + (k - 9) + (k - 99)
     text-short zero l = rw text-header (omega arith)

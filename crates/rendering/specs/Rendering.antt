@@ -1,11 +1,12 @@
--- Rendering a pair as constraint text: every window in order, in the layout that reading takes (document 01, "The figures program").
+-- Rendering a pair as constraint text: every window in order, in the layout that reading takes; and a refusal as a line (document 01,
+-- "The figures program").
 use Prim.Native.Nat.{ℕ, _-_}
-use mathlib.Core.List.{List, [], _∷_, _++_}
+use mathlib.Core.List.{[], _∷_, _++_}
 use lib.ListN.{length, replicate}
 use Rattle.laws.specs.Ranges.{fold}
 use Rattle.curves.specs.Pairs.{Pair, horizon, ceiling, least}
-use Rattle.curves.specs.Questions.{Question, answerTo}
-use Rattle.closure.specs.Closing.{question1, question2, question4}
+use Rattle.curves.specs.Questions.{answerTo}
+use Rattle.bounds.specs.Bounds.{pairQuestions}
 use Rattle.csv.specs.Text.{Bytes, comma, crlf, header}
 use Rattle.csv.specs.Numbers.{decimal}
 
@@ -16,6 +17,10 @@ line w l m = decimal w ++ (comma ∷ []) ++ decimal l ++ (comma ∷ []) ++ decim
 -- The text of a pair: the header line, and a record for each window 1 to H.
 unfoldable pub textOf : Pair → Bytes
 textOf p = fold _++_ (header ++ crlf) (λ d. line d (least p d) (ceiling p d)) (horizon p)
+
+-- The line that tells a refusal: `refused `, its number, CR LF.
+unfoldable pub refusal : ℕ → Bytes
+refusal n = (114 ∷ 101 ∷ 102 ∷ 117 ∷ 115 ∷ 101 ∷ 100 ∷ 32 ∷ []) ++ decimal n ++ crlf
 
 -- ---- the answer
 -- The longest text: that of 256 windows with figures of 8 digits.
@@ -43,8 +48,5 @@ abbrev pub written : Bytes → Answer
 written t = record { number = 0; length = length t; bytes = padded t }
 
 -- Rendering the pair p: questions 1, 2 and 4, as for every operation on a pair, and then its text.
-abbrev pub questions : Pair → List Question
-questions p = question1 p ∷ question2 p ∷ question4 p ∷ []
-
 unfoldable pub rendering : Pair → Answer
-rendering p = answerTo (questions p) (λ _. written (textOf p)) refused
+rendering p = answerTo (pairQuestions p) (λ _. written (textOf p)) refused

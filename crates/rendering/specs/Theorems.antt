@@ -5,15 +5,19 @@ use mathlib.Core.Logic.{_↔_}
 use lib.ListN.{length}
 use Rattle.curves.specs.Pairs.{Pair}
 use Rattle.curves.specs.Questions.{AllYes, FirstNo}
-use Rattle.rendering.specs.Rendering.{longest, textOf, questions, refused, rendering}
+use Rattle.bounds.specs.Bounds.{pairQuestions}
+use Rattle.rendering.specs.Rendering.{longest, textOf, refusal, refused, rendering}
 
 -- Refused with n exactly when question n is the first that is answered no; else a text is written.
 abbrev pub RefusedIffFirstNo : Type 0
-RefusedIffFirstNo = (p : Pair) (n : ℕ) → ((1 ≤ n) × (rendering p ≡ refused n)) ↔ FirstNo (questions p) n
+RefusedIffFirstNo = (p : Pair) (n : ℕ) → ((1 ≤ n) × (rendering p ≡ refused n)) ↔ FirstNo (pairQuestions p) n
 
 abbrev pub WrittenIffAllYes : Type 0
-WrittenIffAllYes = (p : Pair) → (rendering p .number ≡ 0) ↔ AllYes (questions p)
+WrittenIffAllYes = (p : Pair) → (rendering p .number ≡ 0) ↔ AllYes (pairQuestions p)
 
--- The text of a pair that passes the questions is no longer than the longest.
+-- The text of a pair that passes the questions is no longer than the longest; nor is the line of a refusal with any 32-bit number.
 abbrev pub TextFits : Type 0
-TextFits = (p : Pair) → AllYes (questions p) → length (textOf p) ≤ longest
+TextFits = (p : Pair) → AllYes (pairQuestions p) → length (textOf p) ≤ longest
+
+abbrev pub RefusalFits : Type 0
+RefusalFits = (n : ℕ) → n ≤ 4_294_967_295 → length (refusal n) ≤ longest

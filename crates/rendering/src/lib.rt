@@ -2,19 +2,19 @@
 
 mod write;
 
+use bounds::Asked;
 ghost use mathlib.Core.Path.{_≡_};
 ghost use mathlib.Core.List.{[]};
 ghost use Prim.Native.Nat.{_≤_};
 ghost use lib.ListN.{length};
 ghost use Rattle.laws.specs.Writing.{Wrote};
 ghost use Rattle.curves.specs.Pairs.{pairOf};
-ghost use Rattle.closure.specs.Closing.{question1, question2, question4};
-ghost use Rattle.rendering.specs.Rendering.{longest, padded, textOf, rendering};
+ghost use Rattle.curves.specs.Questions.{AllYes};
+ghost use Rattle.bounds.specs.Bounds.{pairQuestions};
+ghost use Rattle.rendering.specs.Rendering.{longest, padded, textOf, refusal, written, rendering};
 ghost use Rattle.rendering.specs.Answers.{answer};
 
-// The longest horizon, and the longest text.
-const MAX_HORIZON: usize = 256;
-
+// The longest text.
 const LONGEST: usize = 5_799;
 
 // What rendering answers: the text is written, or document 01's question is answered no.
@@ -39,22 +39,19 @@ pub struct Rendered {
 pub fn render(ceilings: &[u32], leasts: &[u32]) -> Rendered
     ensures { λ r. ⌜ answer r ≡ rendering (pairOf (now (ceilings .entry)) (now (leasts .entry))) ⌝ }
 {
-    let h = ceilings.len();
-    if h < 1 {
-        return refused(Rendering::UpperLength);
+    match bounds::ask(ceilings, leasts) {
+        Asked::Passes => written(ceilings, leasts),
+        Asked::UpperLength => refused(Rendering::UpperLength),
+        Asked::LowerLength => refused(Rendering::LowerLength),
+        Asked::FigureLimit => refused(Rendering::FigureLimit),
     }
-    if MAX_HORIZON < h {
-        return refused(Rendering::UpperLength);
-    }
-    if leasts.len() != h {
-        return refused(Rendering::LowerLength);
-    }
-    if !bounds::within_limit(ceilings) {
-        return refused(Rendering::FigureLimit);
-    }
-    if !bounds::within_limit(leasts) {
-        return refused(Rendering::FigureLimit);
-    }
+}
+
+// The text of a pair that passes the questions.
+fn written(ceilings: &[u32], leasts: &[u32]) -> Rendered
+    requires { ⌜ AllYes (pairQuestions (pairOf (now ceilings) (now leasts))) ⌝ }
+    ensures { λ r. ⌜ answer r ≡ written (textOf (pairOf (now (ceilings .entry)) (now (leasts .entry)))) ⌝ }
+{
     let mut bytes = blank();
     let length = write_pair(ceilings, leasts, &mut bytes);
     Rendered {
@@ -64,13 +61,26 @@ pub fn render(ceilings: &[u32], leasts: &[u32]) -> Rendered
     }
 }
 
-// A refusal: no text.
-fn refused(answer: Rendering) -> Rendered
-    ensures { λ r. ⌜ (r .answer ≡ answer) × (r .length ≡ 0) × (r .bytes ≡ padded []) ⌝ }
+// The line that tells a refusal with this number, whichever operation gave it.
+pub fn render_refusal(number: u32) -> Rendered
+    ensures { λ r. ⌜ answer r ≡ written (refusal number) ⌝ }
+{
+    let mut bytes = blank();
+    let length = write::refusal(number, &mut bytes);
+    Rendered {
+        answer: Rendering::Written,
+        length,
+        bytes,
+    }
+}
+
+// A pair that is refused: no text.
+fn refused(case: Rendering) -> Rendered
+    ensures { λ r. ⌜ (r .answer ≡ case) × (r .length ≡ 0) × (r .bytes ≡ padded []) ⌝ }
 {
     let bytes = blank();
     Rendered {
-        answer,
+        answer: case,
         length: 0,
         bytes,
     }
@@ -85,9 +95,7 @@ fn blank() -> [u8; LONGEST]
 
 // Writes the header line and then the record of each window; the place after the text comes back.
 fn write_pair(ceilings: &[u32], leasts: &[u32], out: &mut [u8]) -> usize
-    requires { ⌜ question1 (pairOf (now ceilings) (now leasts)) .asked ⌝ }
-    requires { ⌜ question2 (pairOf (now ceilings) (now leasts)) .asked ⌝ }
-    requires { ⌜ question4 (pairOf (now ceilings) (now leasts)) .asked ⌝ }
+    requires { ⌜ AllYes (pairQuestions (pairOf (now ceilings) (now leasts))) ⌝ }
     requires { ⌜ longest ≤ length (now out) ⌝ }
     ensures { λ r. ⌜ Wrote (now (out .entry)) 0 (textOf (pairOf (now (ceilings .entry)) (now (leasts .entry)))) (now (out .exit)) r ⌝ }
 {

@@ -1,83 +1,71 @@
--- What a step's answer leads to, by the case that its enum has. Assumes nothing.
-use Prim.Native.Nat.{ℕ, _+_, _≤_, _<_}
-use mathlib.Core.Path.{_≡_, sym, ap, _∙_, subst}
+-- What a step's answer leads to, by its number. Assumes nothing.
+use Prim.Native.Nat.{ℕ, _≤_, _<_}
+use mathlib.Core.Path.{_≡_, sym, ap, _∙_}
+use mathlib.Core.Bool.{cond}
 use mathlib.Core.List.{List, []}
-use native.Mathlib.Nat.{zero-add}
+use mathlib.Core.Logic.{⊎-elim}
 use native.Mathlib.Omega.{arith}
-use lib.ListN.{length, getD, set, take, replicate}
-use lib.Seq.{sets}
-use Rattle.laws.specs.Writing.{Wrote}
-use Rattle.laws.proofs.Writing.{wrote-entry, wrote-whole, sets-copies}
-use Rattle.curves.specs.Pairs.{Pair, pairOf}
-use Rattle.closure.specs.Closing.{maxHorizon}
+use lib.Dec.{eqb}
+use lib.ListN.{length, take, replicate}
+use lib.Seq.{length-take-le}
+use Rattle.curves.specs.Pairs.{Pair, pairOf, first}
+use Rattle.curves.specs.Questions.{ask}
+use Rattle.bounds.specs.Bounds.{maxHorizon}
+use Rattle.closure.specs.Closing.{closing}
 use Rattle.csv.specs.Text.{Bytes}
-use Rattle.constraints.specs.declared.Reading.{Reading}
-use Rattle.constraints.specs.declared.Reading.the-variants.{Read, HeaderLine, RecordForm, FigureRange, WindowAgain, NoRecord, ResultLength}
-use Rattle.constraints.specs.Answers as read
-use Rattle.constraints.specs.Reading.{later, constraints, reading}
-use Rattle.constraints.specs.Theorems.{GivesPair}
+use Rattle.constraints.specs.Reading.{later, constraints, questions, reading}
 use Rattle.constraints.proofs.Named.{in-range, largest-bound}
-use Rattle.constraints.proofs.Said.{gives-asked, given-is-text-pair}
+use Rattle.constraints.proofs.Said.{refused-is, pair-iff-all-yes, gives-asked, given-is-text-pair}
 use Rattle.rendering.specs.declared.Rendered.{Rendered}
-use Rattle.rendering.specs.declared.Rendering.{Rendering}
-use Rattle.rendering.specs.declared.Rendering.the-variants.{Written}
-use Rattle.rendering.specs.Rendering as rendering
+use Rattle.rendering.specs.Rendering.{refusal, textOf, written, rendering}
 use Rattle.rendering.specs.Answers.{answer, numberOf}
 use Rattle.rendering.proofs.Said.{written-is, written-iff-all-yes}
 use Rattle.report.specs.declared.Output.{Output}
-use Rattle.report.specs.Report.{refusal, blank, afterRendering, reported}
-use Rattle.report.specs.Steps.{Within}
-use Rattle.report.proofs.Said.{refuses, rendered-is}
+use Rattle.report.specs.Report.{blank, afterRendering, afterClosing, reported}
+use Rattle.report.proofs.Said.{refuses, goes-on, rendered-is}
 
--- A text is copied to the beginning of a list byte by byte, and then whole, if the list is of zeros.
-pub message-more : (t found out : Bytes) (i : ℕ) → i < length t → Wrote found 0 (take i t) out (0 + i)
-    → Wrote found 0 (take (i + 1) t) (set out i (getD t i 0)) (0 + (i + 1))
-message-more t found out i l w =
-    subst (λ (k : ℕ). Wrote found 0 (take (i + 1) t) (set out k (getD t i 0)) (0 + (i + 1))) (zero-add i) (wrote-entry t found out 0 i l w)
+-- The output for an answer with the number n, which was told as m: its line, or what the next step leads to.
+module _ (n m : ℕ) (x : Bytes) (o : Output) (e : m ≡ n) where
+  pub line-told : 0 < m → o ≡ reported (refusal m) → o ≡ reported (cond (eqb n 0) x (refusal n))
+  line-told h is = is ∙ ap (λ k. reported (refusal k)) e ∙ ap reported (sym (refuses n x (refusal n) (omega arith)))
 
-pub message-is : (t found out : Bytes) (i : ℕ) (o : Output) → found ≡ replicate rendering.longest 0 → length t ≤ rendering.longest
-    → length t ≡ i → Wrote found 0 (take i t) out (0 + i) → o .length ≡ i → o .bytes ≡ out → o ≡ reported t
-message-is t found out i o z h e w l b =
-    let whole = wrote-whole t found out 0 i e w .entries ∙ ap (λ (x : Bytes). sets x 0 t) z ∙ sets-copies 0 rendering.longest t h in
-    λ k. record { length = (l ∙ sym e) k; bytes = (b ∙ whole) k }
+  pub next-told : m ≤ 0 → o ≡ reported x → o ≡ reported (cond (eqb n 0) x (refusal n))
+  next-told h is = is ∙ ap reported (sym (goes-on n x (refusal n) (omega arith)))
 
--- A report for the case w of an answer is one for an answer that has this case.
-pub in-case : {A : Type 0} (f : A → Output) (v w : A) (o : Output) → v ≡ w → o ≡ f w → o ≡ f v
-in-case f v w o e is = is ∙ ap f (sym e)
-
--- The same for an answer into lists that were found blank.
+-- The report for an answer into lists that were found blank.
 pub into-blank : {A : Type 0} (f : Pair → A) (g : A → Output) (us ls : List ℕ) (a : A) (o : Output)
     → us ≡ replicate maxHorizon 0 → ls ≡ replicate maxHorizon 0 → a ≡ f (pairOf us ls) → o ≡ g a → o ≡ g (f blank)
 unfolding blank
 into-blank f g us ls a o u l e is = is ∙ ap g (e ∙ (λ i. f (pairOf (u i) (l i))))
 
 -- ---- reading
--- A horizon that was read is within the limit.
-pub read-within : (t : Bytes) (found left : Pair) (r : Reading) → read.answer r left ≡ reading t found → Within r maxHorizon
-read-within t found left (Read h) e =
-    let g : GivesPair t found = ap (λ a. a .number) (sym e) in
+-- The horizon that is answered is within the limit.
+pub read-within : (t : Bytes) (found : Pair) (h : ℕ) → h ≡ reading t found .horizon → h ≤ maxHorizon
+read-within t found h e =
+    ⊎-elim
+    (λ ys.
+    let g = pair-iff-all-yes t found .1 ys in
     let bound = largest-bound (constraints t) (in-range [] (later t) (gives-asked t found g .0)) in
-    omega (arith, ap (λ a. a .horizon) e, given-is-text-pair t found g .0, bound)
-read-within t found left HeaderLine e = tt
-read-within t found left RecordForm e = tt
-read-within t found left FigureRange e = tt
-read-within t found left WindowAgain e = tt
-read-within t found left NoRecord e = tt
-read-within t found left ResultLength e = tt
+    omega (arith, given-is-text-pair t found g .0, bound))
+    (λ f. omega (arith, ap (λ a. a .horizon) (refused-is t found (f .0) (f .1))))
+    (ask (questions t found))
+
+-- The pair that was read is closed, up to a horizon that was told as h.
+pub pair-told : (us ls : List ℕ) (h k : ℕ) (o : Output) → h ≡ k → h ≤ length us
+    → o ≡ reported (afterClosing (length (take h us)) (closing (pairOf (take h us) (take h ls)) blank))
+    → o ≡ reported (afterClosing k (closing (first k (pairOf us ls)) blank))
+pair-told us ls h k o e l is =
+    is
+    ∙ ap (λ n. reported (afterClosing n (closing (first h (pairOf us ls)) blank))) (length-take-le h us l)
+    ∙ ap (λ n. reported (afterClosing n (closing (first n (pairOf us ls)) blank))) e
 
 -- ---- rendering
-module _ (p : Pair) (r : Rendered) (told : answer r ≡ rendering.rendering p) (o : Output) where
-  pub written-report : r .answer ≡ Written → o .length ≡ r .length → o .bytes ≡ r .bytes
-      → o ≡ reported (afterRendering (rendering.rendering p))
-  written-report w l b =
-      let ok = written-iff-all-yes p .0 (ap (λ a. a .number) (sym told) ∙ ap numberOf w) in
-      let text = told ∙ written-is p ok in
-      let is : o ≡ reported (rendering.textOf p) =
-      λ i. record { length = (l ∙ ap (λ a. a .length) text) i; bytes = (b ∙ ap (λ a. a .bytes) text) i } in
-      is ∙ ap reported (sym (rendered-is p ok))
+module _ (r : Rendered) (o : Output) (shown : (o .length ≡ r .length) × (o .bytes ≡ r .bytes)) where
+  pub text-shown : (t : Bytes) → answer r ≡ written t → o ≡ reported t
+  text-shown t e =
+      λ i. record { length = (shown .0 ∙ ap (λ a. a .length) e) i; bytes = (shown .1 ∙ ap (λ a. a .bytes) e) i }
 
-  pub unwritten-report : (v : Rendering) → r .answer ≡ v → 1 ≤ numberOf v → o ≡ reported (refusal (numberOf v))
-      → o ≡ reported (afterRendering (rendering.rendering p))
-  unwritten-report v e h is =
-      let number : rendering.rendering p .number ≡ numberOf v = ap (λ a. a .number) (sym told) ∙ ap numberOf e in
-      is ∙ ap reported (sym (refuses (rendering.rendering p .number) _ _ (omega (arith, h, number)) ∙ ap refusal number))
+  pub pair-shown : (p : Pair) → answer r ≡ rendering p → numberOf (r .answer) ≡ 0 → o ≡ reported (afterRendering (rendering p))
+  pair-shown p e z =
+      let ok = written-iff-all-yes p .0 (ap (λ a. a .number) (sym e) ∙ z) in
+      text-shown (textOf p) (e ∙ written-is p ok) ∙ ap reported (sym (rendered-is p ok))

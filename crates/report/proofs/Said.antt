@@ -1,5 +1,5 @@
 -- What the output is, from what reading, closing and rendering answer. Assumes nothing.
-use Prim.Native.Nat.{ℕ, zero, suc, _+_, _-_, _≤_}
+use Prim.Native.Nat.{ℕ, zero, suc, _-_, _≤_}
 use mathlib.Core.Path.{_≡_, refl, sym, ap, _∙_, subst}
 use mathlib.Core.Bool.{Bool, cond}
 use mathlib.Core.List.{List, [], _∷_, _++_}
@@ -16,14 +16,14 @@ use lib.Seq.{take-append-seam, length-take-le}
 use Rattle.curves.specs.Pairs.{Pair, horizon, ceiling, least}
 use Rattle.curves.specs.Questions.{AllYes, FirstNo, ask}
 use Rattle.curves.proofs.Asked.{no-parts}
+use Rattle.bounds.specs.Bounds.{maxHorizon, pairQuestions}
 use Rattle.closure.specs.Closing as closure
 use Rattle.closure.specs.Theorems as closing
 use Rattle.closure.proofs.Given as given
 use Rattle.closure.proofs.Promised as promised
 use Rattle.csv.specs.Text.{Bytes, crlf, header}
-use Rattle.csv.specs.Numbers.{decimal}
-use Rattle.csv.proofs.Numbers.{decimal-few}
-use Rattle.constraints.specs.Constraints.{Constraint, constraintOf, Keeps}
+use Rattle.csv.specs.Records.{Constraint, constraintOf}
+use Rattle.constraints.specs.Constraints.{Keeps}
 use Rattle.constraints.proofs.Named.{in-range, largest-bound}
 use Rattle.constraints.specs.Reading as constraints
 use Rattle.constraints.specs.Theorems.{GivesPair}
@@ -32,7 +32,8 @@ use Rattle.constraints.proofs.Streams.{given-passes, keeps-iff-conforms}
 use Rattle.rendering.specs.Rendering as rendering
 use Rattle.rendering.proofs.Said as rendered
 use Rattle.report.specs.declared.Output.{Output}
-use Rattle.report.specs.Report.{refusal, blank, afterRendering, afterClosing, afterReading, output, reported}
+use Rattle.rendering.specs.Rendering.{refusal}
+use Rattle.report.specs.Report.{blank, afterRendering, afterClosing, afterReading, output, reported}
 use Rattle.report.specs.Theorems.{pairIn, OutputIs, RefusedIffNoStream, OutputFits}
 
 -- ---- a step's answer
@@ -45,15 +46,15 @@ goes-on n x y e = ap (λ (b : Bool). cond b x y) (eq-eqb n 0 e)
 
 -- ---- rendering and closing
 -- A pair that passes is written as its text.
-pub rendered-is : (p : Pair) → AllYes (rendering.questions p) → afterRendering (rendering.rendering p) ≡ rendering.textOf p
+pub rendered-is : (p : Pair) → AllYes (pairQuestions p) → afterRendering (rendering.rendering p) ≡ rendering.textOf p
 rendered-is p ok = ap afterRendering (rendered.written-is p ok) ∙ take-append-seam (rendering.textOf p) _
 
-pub blank-lengths : (length (blank .upper) ≡ closure.maxHorizon) × (length (blank .lower) ≡ closure.maxHorizon)
+pub blank-lengths : (length (blank .upper) ≡ maxHorizon) × (length (blank .lower) ≡ maxHorizon)
 unfolding blank
-blank-lengths = (length-replicate {A = ℕ} closure.maxHorizon 0, length-replicate {A = ℕ} closure.maxHorizon 0)
+blank-lengths = (length-replicate {A = ℕ} maxHorizon 0, length-replicate {A = ℕ} maxHorizon 0)
 
 module _ (p : Pair) where
-  passes : AllYes (rendering.questions p) → closing.Passes p blank
+  passes : AllYes (pairQuestions p) → closing.Passes p blank
   passes ok =
       (ok .0, (ok .1 .0, ((omega (arith, ok .0 .1, blank-lengths .0), omega (arith, ok .0 .1, blank-lengths .1)), (ok .1 .1 .0, tt))))
 
@@ -104,7 +105,7 @@ module _ (t : Bytes) where
   unread-output n f = ap afterReading (read.refused-is t blank n f) ∙ refuses n _ _ (omega (arith, number-within n f .0))
 
   module _ (g : GivesPair t blank) where
-    passes-pair : AllYes (rendering.questions (pairIn t))
+    passes-pair : AllYes (pairQuestions (pairIn t))
     passes-pair = given-passes t blank g
 
     read-horizon : constraints.reading t blank .horizon ≡ horizon (pairIn t)
@@ -173,13 +174,6 @@ refused-iff-no-stream t g = (there, back)
         (given.refused-iff-no-stream (pairIn t) blank (passes (pairIn t) (passes-pair t g)) .1
         (λ s h. none s (keeps-iff-conforms t blank g s .1 h)))
 
-refusal-length : (n : ℕ) → length (refusal n) ≡ 10 + length (decimal n)
-unfolding refusal
-refusal-length n = omega (arith, length-append (word ++ decimal n) crlf, length-append word (decimal n))
-  where
-    word : Bytes
-    word = 114 ∷ 101 ∷ 102 ∷ 117 ∷ 115 ∷ 101 ∷ 100 ∷ 32 ∷ []
-
 pub output-fits : OutputFits
 output-fits t =
     ⊎-elim
@@ -191,7 +185,7 @@ output-fits t =
     Fits o = length o ≤ rendering.longest
 
     short : (n : ℕ) → n ≤ 10 → Fits (refusal n)
-    short n l = omega (arith, refusal-length n, decimal-few n 2 (omega arith) (omega arith))
+    short n l = rendered.refusal-fits n (omega arith)
 
 -- The length that `report` gives back is within its bytes, so that the output can be taken as a part of them.
 module _ (t : Bytes) (o : Output) (e : o ≡ reported (output t)) where

@@ -1,4 +1,3 @@
--- The figures program's output, what is proved of it, and what the private functions promise each other.
+-- The figures program's output, and what is proved of it.
 pub mod Report
 pub mod Theorems
-pub mod Steps

@@ -12,8 +12,8 @@ use Rattle.csv.specs.Text.{Bytes}
 use Rattle.constraints.specs.Constraints.{Keeps}
 use Rattle.constraints.specs.Reading.{constraints, questions}
 use Rattle.constraints.specs.Theorems.{GivesPair, givenPair}
-use Rattle.rendering.specs.Rendering.{longest, textOf}
-use Rattle.report.specs.Report.{refusal, blank, output}
+use Rattle.rendering.specs.Rendering.{longest, textOf, refusal}
+use Rattle.report.specs.Report.{blank, output}
 
 -- The pair that reading the text gives.
 abbrev pub pairIn : Bytes → Pair

@@ -2,18 +2,20 @@
 
 use closure::Closing;
 use constraints::Reading;
+use rendering::Rendered;
 use rendering::Rendering;
 ghost use mathlib.Core.Path.{_≡_};
-ghost use mathlib.Core.List.{[]};
 ghost use Prim.Native.Nat.{_≤_};
 ghost use lib.ListN.{length, replicate};
 ghost use Rattle.curves.specs.Pairs.{pairOf};
-ghost use Rattle.closure.specs.Closing.{maxHorizon, closing};
+ghost use Rattle.bounds.specs.Bounds.{maxHorizon};
+ghost use Rattle.closure.specs.Closing.{closing};
 ghost use Rattle.closure.specs.Answers as closure;
+ghost use Rattle.constraints.specs.Answers.{horizonIn};
 ghost use Rattle.constraints.specs.Answers as constraints;
-ghost use Rattle.rendering.specs.Rendering.{longest, padded, rendering};
+ghost use Rattle.rendering.specs.Rendering.{refusal, rendering};
+ghost use Rattle.rendering.specs.Answers.{numberOf};
 ghost use Rattle.report.specs.Report.{blank, afterRendering, afterClosing, afterReading, output, reported};
-ghost use Rattle.report.specs.Steps.{Within};
 
 // The longest horizon, and the longest output.
 const MAX_HORIZON: usize = 256;
@@ -38,19 +40,16 @@ pub fn report(text: &[u8]) -> Output
 
 // What follows once the text is read.
 fn report_reading(reading: Reading, ceilings: &[u32], leasts: &[u32]) -> Output
-    requires { ⌜ Within reading maxHorizon ⌝ }
     requires { ⌜ (length (now ceilings) ≡ maxHorizon) × (length (now leasts) ≡ maxHorizon) ⌝ }
+    requires { ⌜ horizonIn reading ≤ maxHorizon ⌝ }
     ensures { λ r. ⌜ r ≡ reported (afterReading (constraints.answer reading (pairOf (now (ceilings .entry)) (now (leasts .entry))))) ⌝ }
 {
-    match reading {
-        Reading::Read { horizon } => report_pair(&ceilings[..horizon], &leasts[..horizon]),
-        Reading::HeaderLine => message(b"refused 6\r\n"),
-        Reading::RecordForm => message(b"refused 7\r\n"),
-        Reading::FigureRange => message(b"refused 8\r\n"),
-        Reading::WindowAgain => message(b"refused 9\r\n"),
-        Reading::NoRecord => message(b"refused 10\r\n"),
-        Reading::ResultLength => message(b"refused 11\r\n"),
+    let number = reading_number(reading);
+    if 0 < number {
+        return refused(number);
     }
+    let horizon = reading_horizon(reading);
+    report_pair(&ceilings[..horizon], &leasts[..horizon])
 }
 
 // Closes a pair and reports its closure.
@@ -70,14 +69,11 @@ fn report_closing(closing: Closing, horizon: usize, upper: &[u32], lower: &[u32]
     requires { ⌜ (horizon ≤ length (now upper)) × (horizon ≤ length (now lower)) ⌝ }
     ensures { λ r. ⌜ r ≡ reported (afterClosing horizon (closure.answer closing (pairOf (now (upper .entry)) (now (lower .entry))))) ⌝ }
 {
-    match closing {
-        Closing::Closed { rounds: _ } => report_closure(&upper[..horizon], &lower[..horizon]),
-        Closing::UpperLength => message(b"refused 1\r\n"),
-        Closing::LowerLength => message(b"refused 2\r\n"),
-        Closing::ResultLength => message(b"refused 3\r\n"),
-        Closing::FigureLimit => message(b"refused 4\r\n"),
-        Closing::NoClosure => message(b"refused 5\r\n"),
+    let number = closing_number(closing);
+    if 0 < number {
+        return refused(number);
     }
+    report_closure(&upper[..horizon], &lower[..horizon])
 }
 
 // Renders the closure.
@@ -86,35 +82,80 @@ fn report_closure(upper: &[u32], lower: &[u32]) -> Output
 {
     let rendered = rendering::render(upper, lower);
     let answer = rendered.answer;
+    let number = rendering_number(answer);
+    if 0 < number {
+        return refused(number);
+    }
+    shown(rendered)
+}
+
+// The line of a refusal.
+fn refused(number: u32) -> Output
+    ensures { λ r. ⌜ r ≡ reported (refusal number) ⌝ }
+{
+    shown(rendering::render_refusal(number))
+}
+
+// A rendered text as the whole output.
+fn shown(rendered: Rendered) -> Output
+    ensures { λ r. ⌜ (r .length ≡ rendered .length) × (r .bytes ≡ rendered .bytes) ⌝ }
+{
     let length = rendered.length;
     let bytes = rendered.bytes;
+    Output { length, bytes }
+}
+
+// The number of a refusal, and 0 for a result: of reading, and with it the horizon; of closing; of rendering.
+fn reading_number(reading: Reading) -> u32
+    ensures { λ r. ⌜ r ≡ constraints.numberOf reading ⌝ }
+{
+    match reading {
+        Reading::Read { horizon: _ } => 0,
+        Reading::HeaderLine => 6,
+        Reading::RecordForm => 7,
+        Reading::FigureRange => 8,
+        Reading::WindowAgain => 9,
+        Reading::NoRecord => 10,
+        Reading::ResultLength => 11,
+    }
+}
+
+fn reading_horizon(reading: Reading) -> usize
+    ensures { λ r. ⌜ r ≡ horizonIn reading ⌝ }
+{
+    match reading {
+        Reading::Read { horizon } => horizon,
+        Reading::HeaderLine => 0,
+        Reading::RecordForm => 0,
+        Reading::FigureRange => 0,
+        Reading::WindowAgain => 0,
+        Reading::NoRecord => 0,
+        Reading::ResultLength => 0,
+    }
+}
+
+fn closing_number(closing: Closing) -> u32
+    ensures { λ r. ⌜ r ≡ closure.numberOf closing ⌝ }
+{
+    match closing {
+        Closing::Closed { rounds: _ } => 0,
+        Closing::UpperLength => 1,
+        Closing::LowerLength => 2,
+        Closing::ResultLength => 3,
+        Closing::FigureLimit => 4,
+        Closing::NoClosure => 5,
+    }
+}
+
+fn rendering_number(answer: Rendering) -> u32
+    ensures { λ r. ⌜ r ≡ numberOf answer ⌝ }
+{
     match answer {
-        Rendering::Written => Output { length, bytes },
-        Rendering::UpperLength => message(b"refused 1\r\n"),
-        Rendering::LowerLength => message(b"refused 2\r\n"),
-        Rendering::FigureLimit => message(b"refused 4\r\n"),
+        Rendering::Written => 0,
+        Rendering::UpperLength => 1,
+        Rendering::LowerLength => 2,
+        Rendering::FigureLimit => 4,
     }
-}
-
-// A fixed text as the whole output.
-fn message(text: &[u8]) -> Output
-    requires { ⌜ length (now text) ≤ longest ⌝ }
-    ensures { λ r. ⌜ r ≡ reported (now (text .entry)) ⌝ }
-{
-    let mut bytes = room();
-    let mut i = 0;
-    while i < text.len() {
-        bytes[i] = text[i];
-        i += 1;
-    }
-    Output { length: i, bytes }
-}
-
-// Room for the longest output.
-fn room() -> [u8; LONGEST]
-    ensures { λ r. ⌜ r ≡ padded [] ⌝ }
-{
-    [0; LONGEST]
 }
 
 // 256 figures to compute with.

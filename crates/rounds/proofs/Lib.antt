@@ -1,3 +1,2 @@
--- What `rounding` says, and the laws that the functions' proofs cite. Assumes nothing.
-pub mod Said
+-- The laws that the functions' proofs cite. Assumes nothing.
 mod Laws

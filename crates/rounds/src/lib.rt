@@ -7,7 +7,7 @@ ghost use lib.ListN.{length};
 ghost use Rattle.curves.specs.Pairs.{figure, pairOf};
 ghost use Rattle.curves.specs.Rounds.{cutOff, newUpper, newLower};
 ghost use Rattle.bounds.specs.Bounds.{Bounded};
-ghost use Rattle.rounds.specs.Rounding.{rounding};
+ghost use Rattle.rounds.specs.Rounding.{Rounded};
 ghost use Rattle.rounds.specs.Steps.{sums};
 
 // The figures of one window.
@@ -19,8 +19,8 @@ struct Figures {
 // Puts a round of the pair of `upper` and `lower` into `new_upper` and `new_lower`, where the four are of one length and no figure is above
 // 16,776,960. Else the two stay as they are.
 pub fn round(upper: &[u32], lower: &[u32], new_upper: &mut [u32], new_lower: &mut [u32])
-    ensures { λ _. ⌜ pairOf (now («new_upper» .exit)) (now («new_lower» .exit))
-        ≡ rounding (pairOf (now (upper .entry)) (now (lower .entry))) (pairOf (now («new_upper» .entry)) (now («new_lower» .entry))) ⌝ }
+    ensures { λ _. ⌜ Rounded (pairOf (now (upper .entry)) (now (lower .entry)))
+        (pairOf (now («new_upper» .entry)) (now («new_lower» .entry))) (pairOf (now («new_upper» .exit)) (now («new_lower» .exit))) ⌝ }
 {
     if lower.len() != upper.len() {
         return;

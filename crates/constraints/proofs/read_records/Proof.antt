@@ -7,7 +7,7 @@ use borrow.Author.Needs.{needs}
 use lib.ListN.{length, drop}
 use Rattle.curves.specs.Questions.{result}
 use Rattle.csv.specs.Text.{Bytes, records}
-use Rattle.records.specs.Records.{triple}
+use Rattle.csv.specs.Records.{triple}
 use Rattle.records.specs.Recording.{spelt, recording}
 use Rattle.records.specs.Answers.{recordReply}
 use Rattle.constraints.proofs.Asking.{Reached, recordAt, record-fits, reached-none, reached-end}

@@ -4,7 +4,7 @@ use Prim.Native.Nat.{ℕ, _≤_}
 use mathlib.Core.Path.{sym, ap, subst}
 use native.Mathlib.Omega.{arith}
 use borrow.Author.Needs.{needs}
-use Rattle.closure.specs.Closing.{maxHorizon}
+use Rattle.bounds.specs.Bounds.{maxHorizon}
 use Rattle.monitor.specs.declared.Verdict.{Verdict}
 use Rattle.monitor.specs.Answers.{verdictReply}
 use Rattle.exports.specs.Codes.{rulingCode}

@@ -3,7 +3,7 @@
 use Prim.Native.Nat.{suc, _≤_}
 use native.Mathlib.Omega.{arith}
 use borrow.Author.Needs.{needs}
-use Rattle.closure.specs.Closing.{figureLimit}
+use Rattle.bounds.specs.Bounds.{figureLimit}
 use Rattle.generator.proofs.show.Statement.{statement}
 use Rattle.generator.proofs.show.Tie as tie
 

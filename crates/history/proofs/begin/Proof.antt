@@ -1,40 +1,26 @@
--- `history::begin` meets its contract: in each arm the answer is known.
+-- `history::begin` meets its contract: in the first arm the opening is not refused, in the other it is.
 -- Assumes nothing.
-use mathlib.Core.Path.{sym, ap}
 use borrow.Author.Needs.{needs}
-use Rattle.history.specs.Answers.{openingReply}
-use Rattle.history.proofs.Histories.{opened-fits, begun-as}
+use Rattle.curves.specs.Pairs.{Pair, pairOf}
+use Rattle.history.proofs.Histories.{opened-yes, begun-fresh, begun-blank}
 use Rattle.history.proofs.begin.Statement.{statement}
 use Rattle.history.proofs.begin.Tie as tie
 
+abbrev for : tie.Start → Pair
+for s = pairOf (s .args .ceilings .now) (s .args .leasts .now)
+
 unbegun-requires : tie.Need-unbegun-requires
-unbegun-requires c κs = opened-fits _ _ (c .enum-told .given .1) (c .before .before .before .before .pre)
+unbegun-requires c κs = opened-yes _ _ (c .enum-told .given .1) (c .before .before .before .before .pre)
 
 returns : tie.Need-returns
-returns c = begun-as _ _ _ _ (sym (ap openingReply (c .before .enum-told .given .1))) (c .unbegun .ensures)
+returns c =
+    let s = c .before .before .before .before .before in
+    begun-fresh (for s) _ (s .args .answer) (s .pre) (c .before .enum-told .given .1) (c .unbegun .ensures)
 
 returns-2 : tie.Need-returns-2
-returns-2 c = begun-as _ _ _ _ (sym (ap openingReply (c .before .enum-told2 .given .1))) (c .zero-history .ensures)
-
-returns-3 : tie.Need-returns-3
-returns-3 c = begun-as _ _ _ _ (sym (ap openingReply (c .before .enum-told3 .given .1))) (c .zero-history2 .ensures)
-
-returns-4 : tie.Need-returns-4
-returns-4 c = begun-as _ _ _ _ (sym (ap openingReply (c .before .enum-told4 .given .1))) (c .zero-history3 .ensures)
+returns-2 c =
+    let s = c .before .before .before .before in
+    begun-blank (for s) _ (s .args .answer) (s .pre) (c .before .match .keys2) (c .zero-history .ensures)
 
 pub begin-spec : {M : Type 1} → statement M
-begin-spec =
-    tie.close
-    (tie.spec
-    (λ c. search needs)
-    unbegun-requires
-    (λ c. search needs)
-    (λ c κs. search needs)
-    (λ c. search needs)
-    (λ c κs. search needs)
-    (λ c. search needs)
-    (λ c κs. search needs)
-    returns
-    returns-2
-    returns-3
-    returns-4)
+begin-spec = tie.close (tie.spec (λ c. search needs) unbegun-requires (λ c κs. search needs) returns returns-2)

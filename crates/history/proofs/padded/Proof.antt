@@ -8,7 +8,7 @@ use lib.ListN.{length}
 use Rattle.laws.proofs.Table.{Filled, unfilled, stored}
 use Rattle.curves.specs.Pairs.{figure}
 use Rattle.curves.proofs.Figures.{figure-next}
-use Rattle.closure.specs.Closing.{maxHorizon}
+use Rattle.bounds.specs.Bounds.{maxHorizon}
 use Rattle.history.proofs.Histories.{padded-done}
 use Rattle.history.proofs.padded.Statement.{statement}
 use Rattle.history.proofs.padded.Tie as tie

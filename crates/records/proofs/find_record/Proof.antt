@@ -9,7 +9,7 @@ use lib.ListN.{length, take, drop}
 use Rattle.laws.proofs.Tests.{either-true, either-false}
 use Rattle.csv.specs.Text.{Bytes}
 use Rattle.csv.proofs.Splitting.{splits-records, passed-more, passed-found, passed-all}
-use Rattle.records.specs.Records.{firstRecord}
+use Rattle.csv.specs.Records.{firstRecord}
 use Rattle.records.proofs.find_record.Statement.{statement}
 use Rattle.records.proofs.find_record.Tie as tie
 

@@ -41,10 +41,9 @@ so-far k = k .loop .inv .2 _ (k .before .before .before .bytes .ensures)
 record-requires : tie.Need-record-requires Inv-loop μ-loop
 record-requires c κs =
     let k = c .before .before .before .before in
-    let short = start k .pre .0 .1 in
-    let figures = start k .pre .1 .1 .0 in
-    let (u, v) = next-within (pair k) short figures (k .loop .n) (omega arith) in
-    next-fits (pair k) short figures (k .loop .n) _ _ _ _ _ (omega arith) (omega arith)
+    let all = start k .pre .0 in
+    let (u, v) = next-within (pair k) all (k .loop .n) (omega arith) in
+    next-fits (pair k) all (k .loop .n) _ _ _ _ _ (omega arith) (omega arith)
     (omega (arith, u, v)) (omega (arith, u, v)) (so-far k .place) (omega arith)
 
 loop-again : tie.Need-loop-again Inv-loop μ-loop

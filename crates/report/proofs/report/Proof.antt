@@ -1,5 +1,6 @@
 -- `report::report` meets its promise: what follows from what reading answers into blank lists.
 -- Assumes nothing.
+use mathlib.Core.Path.{ap}
 use borrow.Author.Needs.{needs}
 use Rattle.constraints.specs.Reading.{reading}
 use Rattle.report.specs.Report.{afterReading, output, reported}
@@ -10,7 +11,7 @@ use Rattle.report.proofs.report.Tie as tie
 report-reading-requires : tie.Need-report-reading-requires
 report-reading-requires c κs =
     let told = c .before .before .before .before .read in
-    (read-within _ _ _ (told .result) (told .ensures), search needs)
+    (search needs, read-within _ _ _ (ap (λ a. a .horizon) (told .ensures)))
 
 returns : tie.Need-returns
 unfolding output

@@ -1,7 +1,6 @@
 -- `rounds::round` meets its promise: nothing is stored where the lists are not ready; else before a turn the new figures before i are.
 -- Assumes nothing.
 use Prim.Native.Nat.{_-_, _≤_}
-use mathlib.Core.Path.{sym, _∙_}
 use native.Mathlib.Omega.{arith}
 use borrow.Author.Needs.{needs}
 use lib.ListN.{length}
@@ -11,7 +10,7 @@ use Rattle.curves.specs.Pairs.{Pair, pairOf}
 use Rattle.curves.specs.Rounds.{cutOff, newUpper, newLower, round}
 use Rattle.bounds.specs.Bounds.{Bounded}
 use Rattle.rounds.specs.Rounding.{Ready}
-use Rattle.rounds.proofs.Said.{rounded, as-found}
+use Rattle.rounds.proofs.Laws.{as-found}
 use Rattle.rounds.proofs.round.Statement.{statement}
 use Rattle.rounds.proofs.round.Tie as tie
 
@@ -25,25 +24,25 @@ abbrev μ-loop : tie.MeasureT-loop
 μ-loop upper lower new-upper₀ new-lower₀ i₀ new-upper new-lower i = length upper - i
 
 returns : tie.Need-returns Inv-loop μ-loop
-returns c = sym (as-found _ _ (λ r. c .if1 .taken (r .0 .0)))
+returns c = as-found _ _ (λ r. c .if1 .taken (r .0 .0))
 
 returns-2 : tie.Need-returns-2 Inv-loop μ-loop
-returns-2 c = sym (as-found _ _ (λ r. c .if2 .taken (r .0 .1 .0)))
+returns-2 c = as-found _ _ (λ r. c .if2 .taken (r .0 .1 .0))
 
 returns-3 : tie.Need-returns-3 Inv-loop μ-loop
-returns-3 c = sym (as-found _ _ (λ r. c .if3 .taken (r .0 .1 .1 .0)))
+returns-3 c = as-found _ _ (λ r. c .if3 .taken (r .0 .1 .1 .0))
 
 returns-4 : tie.Need-returns-4 Inv-loop μ-loop
 returns-4 c =
     let told = c .before .within-limit in
     let above : ¬ Bounded _ = told-no _ (told .result) (c .if4 .taken) (told .ensures) in
-    sym (as-found _ _ (λ r. above (r .1 .0)))
+    as-found _ _ (λ r. above (r .1 .0))
 
 returns-5 : tie.Need-returns-5 Inv-loop μ-loop
 returns-5 c =
     let told = c .before .within-limit2 in
     let above : ¬ Bounded _ = told-no _ (told .result) (c .if5 .taken) (told .ensures) in
-    sym (as-found _ _ (λ r. above (r .1 .1)))
+    as-found _ _ (λ r. above (r .1 .1))
 
 -- Where the lists are ready: the function's start, and what was asked.
 abbrev start : tie.Else5 Inv-loop μ-loop → tie.Start Inv-loop μ-loop
@@ -88,7 +87,7 @@ returns-6 c =
     let n = length (start e .args .upper .now) in
     let uppers = filled (inv .1) n (omega arith) (omega arith) in
     let lowers = filled (inv .2) n (omega arith) (omega arith) in
-    (λ i. pairOf (uppers i) (lowers i)) ∙ sym (rounded (given (start e)) (found (start e)) (ready e))
+    record { computed = λ _. λ i. pairOf (uppers i) (lowers i); stays = λ n. absurd (n (ready e)) }
 
 pub round-spec : {M : Type 1} → statement M
 round-spec =

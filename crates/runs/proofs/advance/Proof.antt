@@ -1,9 +1,6 @@
 -- `runs::advance` meets its contract: what is copied back is the round that was compared.
 -- Assumes nothing.
-use mathlib.Core.Path.{_∙_}
 use borrow.Author.Needs.{needs}
-use Rattle.curves.specs.Pairs.{pairOf}
-use Rattle.rounds.proofs.Said.{rounded}
 use Rattle.runs.proofs.Laws.{pairs-told, advanced}
 use Rattle.runs.proofs.advance.Statement.{statement}
 use Rattle.runs.proofs.advance.Tie as tie
@@ -16,7 +13,7 @@ returns c =
     let start = first .before .before .before .before .before .before .before .before .before in
     let us = start .args .upper .now in
     let ls = start .args .lower .now in
-    advanced us ls _ _ _ _ _ (first .round .ensures ∙ rounded (pairOf us ls) _ (start .pre))
+    advanced us ls _ _ _ _ _ (first .round .ensures .computed (start .pre))
     (pairs-told us ls _ _ (uppers .result) (lowers .result) (uppers .ensures .1) (lowers .ensures .1))
     (uppers .ensures .0) (lowers .ensures .0)
 

@@ -6,25 +6,26 @@ use native.Mathlib.Omega.{arith}
 use borrow.Author.Needs.{needs}
 use lib.ListN.{length}
 use lib.Seq.{length-take-le}
-use Rattle.laws.proofs.Tests.{told-yes, told-no}
-use Rattle.closure.specs.Closing.{maxHorizon}
-use Rattle.history.proofs.Histories.{legal-sizes, legal-bounded, bounded-legal}
+use Rattle.laws.proofs.Tests.{either-true, either-false, tells-same}
+use Rattle.bounds.specs.Bounds.{maxHorizon, Bounded}
+use Rattle.history.specs.Promises.{Room}
+use Rattle.history.proofs.Histories.{legal-room, legal-bounded, bounded-legal}
 use Rattle.history.proofs.History.is_legal.Statement.{statement}
 use Rattle.history.proofs.History.is_legal.Tie as tie
 
 returns : tie.Need-returns
-returns c l = omega (arith, legal-sizes _ l .0, c .if1 .taken)
+returns c l = omega (arith, legal-room _ l .within, c .if1 .taken)
 
 returns-2 : tie.Need-returns-2
-returns-2 c l = omega (arith, legal-sizes _ l .1, c .if2 .taken)
+returns-2 c l = omega (arith, legal-room _ l .fewer, c .if2 .taken)
 
-returns-3 : tie.Need-returns-3
-returns-3 c l = omega (arith, legal-sizes _ l .2, c .if3 .taken)
-
+-- Where there is room for a tick, the arrays have a figure for each window up to the horizon.
 abbrev start : tie.Else2 → tie.Start
-start e = e .before .before
+start e = e .before .before .before
 
--- Where the horizon is at most 256, the arrays have a figure for each window up to it.
+room : (e : tie.Else2) → Room (start e .args .self)
+room e = record { within = omega arith; fewer = omega arith }
+
 uppers : (e : tie.Else2) → start e .args .self .horizon ≤ length (start e .args .self .upper)
 uppers e = let l : length (start e .args .self .upper) ≡ maxHorizon = search needs in omega arith
 
@@ -32,37 +33,30 @@ lowers : (e : tie.Else2) → start e .args .self .horizon ≤ length (start e .a
 lowers e = let l : length (start e .args .self .lower) ≡ maxHorizon = search needs in omega arith
 
 array-share-prefix-upper : tie.Need-array-share-prefix-upper
-array-share-prefix-upper c = uppers (c .before .before .before .before)
+array-share-prefix-upper c = uppers (c .before .before)
 
 slice-aggregate-within-limit : tie.Need-slice-aggregate-within-limit
-slice-aggregate-within-limit c = sym (length-take-le _ _ (uppers (c .before .before .before .before .before)))
+slice-aggregate-within-limit c = sym (length-take-le _ _ (uppers (c .before .before .before)))
+
+array-share-prefix-lower : tie.Need-array-share-prefix-lower
+array-share-prefix-lower c = lowers (c .before .before .before .before .before)
+
+slice-aggregate-within-limit-2 : tie.Need-slice-aggregate-within-limit-2
+slice-aggregate-within-limit-2 c = sym (length-take-le _ _ (lowers (c .before .before .before .before .before .before)))
+
+returns-3 : tie.Need-returns-3
+returns-3 c =
+    let e = c .before .before .before .before .before .before .before in
+    let upper = either-true _ _ _ (c .before .before .if3 .taken) (c .before .before .before .within-limit .ensures) in
+    tells-same (c .within-limit2 .result) (
+      (λ lower. bounded-legal _ (uppers e) (lowers e) (room e) (upper, lower)),
+      (λ l. legal-bounded _ (uppers e) (lowers e) l .1),
+    ) (c .within-limit2 .ensures)
 
 returns-4 : tie.Need-returns-4
 returns-4 c l =
-    let e = c .before .before .before .before .before .before .before in
-    let told = c .before .within-limit in
-    told-no _ (told .result) (c .if4 .taken) (told .ensures) (legal-bounded _ (uppers e) (lowers e) l .0)
-
-array-share-prefix-lower : tie.Need-array-share-prefix-lower
-array-share-prefix-lower c = lowers (c .before .before .before .before .before .before .before)
-
-slice-aggregate-within-limit-2 : tie.Need-slice-aggregate-within-limit-2
-slice-aggregate-within-limit-2 c = sym (length-take-le _ _ (lowers (c .before .before .before .before .before .before .before .before)))
-
-returns-5 : tie.Need-returns-5
-returns-5 c l =
-    let e = c .before .before .before .before .before .before .before .before .before .before in
-    let told = c .before .within-limit2 in
-    told-no _ (told .result) (c .if5 .taken) (told .ensures) (legal-bounded _ (uppers e) (lowers e) l .1)
-
-returns-6 : tie.Need-returns-6
-returns-6 c =
-    let e = c .before .before .before .before .before .before .before .before .before .before in
-    let upper = c .before .before .before .before .within-limit in
-    let lower = c .before .within-limit2 in
-    bounded-legal _ (uppers e) (lowers e) (omega arith) (omega arith) (omega arith)
-    (told-yes _ (upper .result) (c .before .before .before .if4 .left) (upper .ensures))
-    (told-yes _ (lower .result) (c .if5 .left) (lower .ensures))
+    let e = c .before .before .before .before .before in
+    either-false _ (¬ Bounded _) _ (c .if3 .left) (c .before .within-limit .ensures) (legal-bounded _ (uppers e) (lowers e) l .0)
 
 pub is-legal-spec : {M : Type 1} → statement M
 is-legal-spec =
@@ -70,13 +64,11 @@ is-legal-spec =
     (tie.spec
     returns
     returns-2
-    returns-3
     array-share-prefix-upper
     slice-aggregate-within-limit
     (λ c κs. search needs)
-    returns-4
     array-share-prefix-lower
     slice-aggregate-within-limit-2
     (λ c κs. search needs)
-    returns-5
-    returns-6)
+    returns-3
+    returns-4)

@@ -4,9 +4,9 @@ use mathlib.Core.Path.{_≡_}
 use mathlib.Core.List.{[]}
 use lib.ListN.{length, getD}
 use Rattle.laws.specs.Tests.{Each}
-use Rattle.closure.specs.Closing.{maxHorizon}
+use Rattle.bounds.specs.Bounds.{maxHorizon}
 use Rattle.csv.specs.Text.{Bytes, records, fields}
 use Rattle.csv.specs.Numbers.{Numeral, value}
 
 -- Every window of `window` ticks has at least `least` and at most `most` messages.
 pub record Constraint : Type 0 where

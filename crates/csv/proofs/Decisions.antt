@@ -1,13 +1,13 @@
--- What is asked of a record can be decided. A reader needs these types only.
+-- What is asked of a record can be decided. Assumes nothing.
 use Prim.Native.Nat.{ℕ}
 use mathlib.Core.Logic.{inl, inr, Dec·and}
 use native.Mathlib.Decide.{decLe, ℕ-discrete}
 use lib.ListN.{length, getD}
 use Rattle.laws.proofs.Tests.{each?}
-use Rattle.closure.specs.Closing.{maxHorizon}
+use Rattle.bounds.specs.Bounds.{maxHorizon}
 use Rattle.csv.specs.Text.{Bytes, fields}
 use Rattle.csv.specs.Numbers.{Digit, Numeral}
-use Rattle.records.specs.Records.{Constraint, WellFormed, messageLimit, InRange}
+use Rattle.csv.specs.Records.{Constraint, WellFormed, messageLimit, InRange}
 
 unfoldable pub digit? : (b : ℕ) → Dec (Digit b)
 digit? b = Dec·and (decLe 48 b) (decLe b 57)

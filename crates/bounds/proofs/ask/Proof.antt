@@ -1,0 +1,52 @@
+-- `bounds::ask` meets its promise: each number where its question is the first that is answered no.
+-- Assumes nothing.
+use mathlib.Core.Path.{refl}
+use mathlib.Core.Logic.{inl, inr}
+use native.Mathlib.Omega.{arith}
+use borrow.Author.Needs.{needs}
+use Rattle.laws.proofs.Tests.{told-yes, told-no}
+use Rattle.bounds.specs.Bounds.{Bounded}
+use Rattle.bounds.proofs.ask.Statement.{statement}
+use Rattle.bounds.proofs.ask.Tie as tie
+
+returns : tie.Need-returns
+returns c = inl (refl, λ y. omega (arith, y .0, c .if1 .taken))
+
+returns-2 : tie.Need-returns-2
+returns-2 c = inl (refl, λ y. omega (arith, y .1, c .if2 .taken))
+
+returns-3 : tie.Need-returns-3
+returns-3 c = inr ((omega arith, omega arith), inl (refl, c .if3 .taken))
+
+returns-4 : tie.Need-returns-4
+returns-4 c =
+    let told = c .before .within-limit in
+    let above : ¬ Bounded _ = told-no _ (told .result) (c .if4 .taken) (told .ensures) in
+    inr ((omega arith, omega arith), inr (omega arith, inl (refl, λ y. above (y .0))))
+
+returns-5 : tie.Need-returns-5
+returns-5 c =
+    let told = c .before .within-limit2 in
+    let above : ¬ Bounded _ = told-no _ (told .result) (c .if5 .taken) (told .ensures) in
+    inr ((omega arith, omega arith), inr (omega arith, inl (refl, λ y. above (y .1))))
+
+returns-6 : tie.Need-returns-6
+returns-6 c =
+    let uppers = c .before .before .before .within-limit in
+    let lowers = c .before .within-limit2 in
+    let within-uppers = told-yes _ (uppers .result) (c .before .before .if4 .left) (uppers .ensures) in
+    let within-lowers = told-yes _ (lowers .result) (c .if5 .left) (lowers .ensures) in
+    ((omega arith, omega arith), (omega arith, ((within-uppers, within-lowers), tt)))
+
+pub ask-spec : {M : Type 1} → statement M
+ask-spec =
+    tie.close
+    (tie.spec
+    returns
+    returns-2
+    returns-3
+    (λ c κs. search needs)
+    returns-4
+    (λ c κs. search needs)
+    returns-5
+    returns-6)
