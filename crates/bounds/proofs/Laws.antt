@@ -1,11 +1,6 @@
 -- Laws over plain variables that the function's proof cites.
 -- Assumes nothing.
-use Prim.Native.Nat.{ℕ, zero, suc, _≤_, _<_}
-use mathlib.Core.Path.{_≡_}
-use mathlib.Core.Bool.{Bool}
-use mathlib.Core.List.{List}
-use native.Mathlib.Omega.{arith}
-use lib.ListN.{length, getD}
+use Rattle.laws.proofs.Base.{ℕ, zero, suc, _≤_, _<_, _≡_, Bool, List, arith, length, getD}
 use Rattle.laws.specs.Tests.{Tells}
 use Rattle.laws.proofs.Tests.{tells-same}
 use Rattle.curves.specs.Pairs.{figure}

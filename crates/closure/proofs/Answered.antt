@@ -1,10 +1,6 @@
 -- What `close` has to show at each of its ends, over plain lists. Assumes nothing.
-use Prim.Native.Nat.{ℕ}
-use mathlib.Core.Path.{_≡_, refl, sym, ap, _∙_}
-use mathlib.Core.List.{List, _++_}
-use mathlib.Core.Logic.{inl, inr}
-use lib.ListN.{length, take, drop, take-append-drop}
-use lib.Seq.{length-take-le}
+use Rattle.laws.proofs.Base.{ℕ, _≡_, refl, sym, ap, _∙_, List, _++_, inl, inr, length, take, drop, length-take-le}
+use lib.ListN.{take-append-drop}
 use Rattle.laws.specs.Ranges.{table}
 use Rattle.curves.specs.Pairs.{Pair, horizon, figure, pairOf}
 use Rattle.curves.specs.Rounds.{whole, Arrives}

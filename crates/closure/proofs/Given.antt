@@ -1,12 +1,5 @@
 -- The closure that is given is the one that the rounds arrive at; its streams and those of the pair, as document 01's. Assumes nothing.
-use Prim.Native.Nat.{ℕ, _≤_}
-use mathlib.Core.Path.{_≡_, sym, ap, _∙_, subst⁻¹}
-use mathlib.Core.List.{List, [], _++_}
-use mathlib.Core.Logic.{inl, inr, ⊎-elim}
-use native.Mathlib.Nat.{add-zero}
-use native.Mathlib.Omega.{arith}
-use lib.ListN.{length, take}
-use lib.Seq.{take-at}
+use Rattle.laws.proofs.Base.{ℕ, _≤_, _≡_, sym, ap, _∙_, subst⁻¹, List, [], _++_, inl, inr, ⊎-elim, add-zero, arith, length, take, take-at}
 use Rattle.laws.specs.Ranges.{table}
 use Rattle.laws.proofs.Table.{length-table}
 use Rattle.curves.specs.Streams.{countLimit, Stream, sum}

@@ -1,8 +1,6 @@
 -- Theorems 5 to 8 over what `closing` says. Assumes nothing.
-use Prim.Native.Nat.{ℕ, _≤_}
-use mathlib.Core.Path.{_≡_, sym, ap, _∙_}
-use mathlib.Core.Logic.{_↔_, Iff·trans, Iff·symm}
-use native.Mathlib.Omega.{arith}
+use Rattle.laws.proofs.Base.{ℕ, _≤_, _≡_, sym, ap, _∙_, _↔_, arith}
+use mathlib.Core.Logic.{Iff·trans, Iff·symm}
 use Rattle.curves.specs.Streams.{Stream, Begins, sum}
 use Rattle.curves.specs.Pairs.{Pair, horizon, ceiling, least, Equal}
 use Rattle.curves.specs.Conformance.{Inside, Conforms, Conforms∞}

@@ -1,11 +1,6 @@
 -- What `closing` says, case by case: refused where a question is the first that is answered no, else what the rounds arrive at.
 -- Assumes nothing.
-use Prim.Native.Nat.{ℕ}
-use mathlib.Core.Path.{_≡_, refl}
-use mathlib.Core.List.{_++_}
-use mathlib.Core.Logic.{_⊎_, inl, inr, ⊎-elim}
-use native.Mathlib.Omega.{arith}
-use lib.ListN.{drop}
+use Rattle.laws.proofs.Base.{ℕ, _≡_, refl, _++_, _⊎_, inl, inr, ⊎-elim, arith, drop}
 use Rattle.laws.proofs.Table.{table-same}
 use Rattle.curves.specs.Pairs.{Pair, ceiling, least, Equal}
 use Rattle.curves.specs.Rounds.{whole, Arrives}

@@ -1,10 +1,6 @@
 -- What `read` has to show at each of its ends, over a plain text and plain lists. Assumes nothing.
-use Prim.Native.Nat.{ℕ, _+_, _≤_}
-use mathlib.Core.Path.{_≡_, refl, sym, ap, _∙_, subst}
-use mathlib.Core.List.{List, [], _∷_, _++_, map}
-use mathlib.Core.Logic.{inl, inr}
-use native.Mathlib.Omega.{arith}
-use lib.ListN.{length, drop, length-map}
+use Rattle.laws.proofs.Base.{ℕ, _+_, _≤_, _≡_, refl, sym, ap, _∙_, subst, List, [], _∷_, _++_, map, inl, inr, arith, length, drop}
+use lib.ListN.{length-map}
 use Rattle.curves.specs.Pairs.{Pair, pairOf}
 use Rattle.curves.specs.Questions.{AllYes, FirstNo}
 use Rattle.curves.proofs.Asked.{yes-append, no-before, no-after}

@@ -1,12 +1,7 @@
 -- Laws of a record's questions: how far a loop through the records has come, and how it ends.
 -- Assumes nothing.
-use Prim.Native.Nat.{ℕ, _+_, _-_, _≤_, _<_}
-use mathlib.Core.Path.{_≡_, refl, sym, ap, _∙_, subst}
-use mathlib.Core.Bool.{true, false}
-use mathlib.Core.List.{List, [], _∷_, _++_, map, append-assoc, append-nil}
-use mathlib.Core.Logic.{inl, inr}
-use native.Mathlib.Omega.{arith}
-use lib.ListN.{length, getD, take, drop, length-drop, drop-of-length-le}
+use Rattle.laws.proofs.Base.{ℕ, _+_, _-_, _≤_, _<_, _≡_, refl, sym, ap, _∙_, subst, true, false, List, [], _∷_, _++_, map, append-assoc}
+use Rattle.laws.proofs.Base.{append-nil, inl, inr, arith, length, getD, take, drop, length-drop, drop-of-length-le}
 use lib.Seq.{drop-drop}
 use Rattle.laws.specs.Tests.{Either}
 use Rattle.laws.proofs.Tests.{either-true, either-false}

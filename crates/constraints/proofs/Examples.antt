@@ -1,8 +1,6 @@
 -- The definitions compute: filling a set of constraints up to a horizon, and which record's fault decides. Assumes nothing.
-use mathlib.Core.Path.{_≡_, refl}
-use mathlib.Core.List.{[], _∷_, _++_}
-use mathlib.Core.Logic.{⊎-map, Dec·and, Dec·not}
-use native.Mathlib.Decide.{decLe, ℕ-discrete}
+use Rattle.laws.proofs.Base.{_≡_, refl, [], _∷_, _++_, ⊎-map, Dec·and, decLe, ℕ-discrete}
+use mathlib.Core.Logic.{Dec·not}
 use Rattle.laws.specs.Ranges.{table}
 use Rattle.laws.proofs.Tests.{each?, equal-lists?}
 use Rattle.curves.specs.Pairs.{Pair, pairOf}

@@ -1,10 +1,6 @@
 -- 7, 8 and 9 are given by the first faulty record. Assumes nothing.
-use Prim.Native.Nat.{ℕ, zero, suc, _<_}
-use mathlib.Core.Path.{_≡_, sym, ap, subst}
-use mathlib.Core.List.{List, [], _∷_, _++_, map, append-assoc, append-nil}
-use mathlib.Core.Logic.{inr, ⊎-elim}
-use native.Mathlib.Omega.{arith}
-use lib.ListN.{length, getD, take}
+use Rattle.laws.proofs.Base.{ℕ, zero, suc, _<_, _≡_, sym, ap, subst, List, [], _∷_, _++_, map, append-assoc, append-nil, inr, ⊎-elim, arith}
+use Rattle.laws.proofs.Base.{length, getD, take}
 use Rattle.curves.specs.Questions.{Question, AllYes, FirstNo}
 use Rattle.curves.proofs.Asked.{no-parts, no-before, no-after}
 use Rattle.csv.specs.Text.{Bytes}

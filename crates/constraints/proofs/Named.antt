@@ -1,13 +1,6 @@
 -- What a set of constraints names, and what follows of constraints that were asked in order. Assumes nothing.
-use Prim.Native.Nat.{ℕ, _≤_}
-use mathlib.Core.Path.{_≡_, refl, sym, ap, _∙_, subst}
-use mathlib.Core.Bool.{Bool, cond}
-use mathlib.Core.List.{List, [], _∷_, _++_, map, append-assoc, append-nil}
-use mathlib.Core.Logic.{_⊎_, inl, inr, ⊎-elim}
-use native.Mathlib.Omega.{arith}
-use native.Mathlib.Decide.{ℕ-discrete}
-use lib.ListN.{length}
-use borrow.Author.Tests.{eq-eqb, ne-eqb}
+use Rattle.laws.proofs.Base.{ℕ, _≤_, _≡_, refl, sym, ap, _∙_, subst, Bool, cond, List, [], _∷_, _++_, map, append-assoc, append-nil, _⊎_}
+use Rattle.laws.proofs.Base.{inl, inr, ⊎-elim, ℕ-discrete, arith, eq-eqb, ne-eqb, length}
 use Rattle.laws.specs.Tests.{Each}
 use Rattle.laws.proofs.Tests.{each-map}
 use Rattle.curves.specs.Questions.{AllYes}

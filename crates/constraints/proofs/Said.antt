@@ -1,11 +1,6 @@
 -- What `reading` says, case by case: refused where a question is the first that is answered no, else the text's pair.
 -- Assumes nothing.
-use Prim.Native.Nat.{ℕ}
-use mathlib.Core.Path.{_≡_, refl, ap, _∙_}
-use mathlib.Core.List.{List, [], _∷_, _++_}
-use native.Mathlib.Omega.{arith}
-use lib.ListN.{take}
-use lib.Seq.{take-at}
+use Rattle.laws.proofs.Base.{ℕ, _≡_, refl, ap, _∙_, List, [], _∷_, _++_, arith, take, take-at}
 use Rattle.laws.specs.Ranges.{table}
 use Rattle.laws.proofs.Table.{length-table}
 use Rattle.curves.specs.Pairs.{Pair}

@@ -1,12 +1,7 @@
 -- The unbounded streams that conform to a text's pair are those that keep its constraints. Assumes nothing.
-use Prim.Native.Nat.{ℕ, zero, suc, _+_, _*_, _≤_}
-use mathlib.Core.Path.{_≡_, sym, ap, _∙_, subst}
-use mathlib.Core.List.{List, [], _∷_}
-use mathlib.Core.Logic.{⊎-elim}
-use native.Mathlib.Nat.{le-trans, mul-le-mul, suc-mul}
-use native.Mathlib.Decide.{decLe}
-use native.Mathlib.Omega.{arith}
-use lib.ListN.{length, length-map}
+use Rattle.laws.proofs.Base.{ℕ, zero, suc, _+_, _*_, _≤_, _≡_, sym, ap, _∙_, subst, List, [], _∷_, ⊎-elim, decLe, le-trans, arith, length}
+use native.Mathlib.Nat.{mul-le-mul, suc-mul}
+use lib.ListN.{length-map}
 use Rattle.laws.specs.Ranges.{table}
 use Rattle.laws.specs.Tests.{Each}
 use Rattle.laws.proofs.Table.{length-table, getD-table}

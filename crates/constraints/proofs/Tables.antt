@@ -1,14 +1,8 @@
 -- Laws of the table of constraints: what it holds, with none, with one more, and what is filled from it.
 -- Assumes nothing.
-use Prim.Native.Nat.{ℕ, suc, _+_, _-_, _*_, _≤_, min, max}
-use mathlib.Core.Path.{_≡_, refl, sym, ap, _∙_}
-use mathlib.Core.Bool.{Bool, true, false, cond}
-use mathlib.Core.List.{List, [], _∷_, _++_}
+use Rattle.laws.proofs.Base.{ℕ, suc, _+_, _-_, _*_, _≤_, min, max, _≡_, refl, sym, ap, _∙_, Bool, true, false, cond, List, [], _∷_, _++_}
+use Rattle.laws.proofs.Base.{arith, eq-eqb, ne-eqb, eqb-true, eqb-false, eqb, getD, set, replicate}
 use native.Mathlib.Nat.{mul-le-mul}
-use native.Mathlib.Omega.{arith}
-use borrow.Author.Tests.{eqb-true, eqb-false, eq-eqb, ne-eqb}
-use lib.Dec.{eqb}
-use lib.ListN.{getD, set, replicate}
 use Rattle.laws.specs.Ranges.{table}
 use Rattle.laws.specs.Tests.{Either}
 use Rattle.laws.proofs.Table.{getD-table, table-ext, table-set, table-same-entry}

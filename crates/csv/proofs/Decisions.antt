@@ -1,8 +1,5 @@
 -- What is asked of a record can be decided. Assumes nothing.
-use Prim.Native.Nat.{ℕ}
-use mathlib.Core.Logic.{inl, inr, Dec·and}
-use native.Mathlib.Decide.{decLe, ℕ-discrete}
-use lib.ListN.{length, getD}
+use Rattle.laws.proofs.Base.{ℕ, inl, inr, Dec·and, decLe, ℕ-discrete, length, getD}
 use Rattle.laws.proofs.Tests.{each?}
 use Rattle.bounds.specs.Bounds.{maxHorizon}
 use Rattle.csv.specs.Text.{Bytes, fields}

@@ -1,6 +1,5 @@
 -- The definitions compute: texts split, fields read, numbers written. Assumes nothing.
-use mathlib.Core.Path.{_≡_, refl}
-use mathlib.Core.List.{[], _∷_, _++_}
+use Rattle.laws.proofs.Base.{_≡_, refl, [], _∷_, _++_}
 use Rattle.csv.specs.Text.{comma, cr, lf, crlf, records, fields}
 use Rattle.csv.specs.Numbers.{valueAfter, value, lastDigits, decimal}
 

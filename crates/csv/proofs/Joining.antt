@@ -1,7 +1,5 @@
 -- Text that is put together from records and fields splits into the same again. Assumes nothing.
-use mathlib.Core.Path.{_≡_, refl, ap}
-use mathlib.Core.List.{[], _∷_, _++_}
-use borrow.Author.Tests.{ne-eqb}
+use Rattle.laws.proofs.Base.{_≡_, refl, ap, [], _∷_, _++_, ne-eqb}
 use Rattle.laws.specs.Tests.{Each}
 use Rattle.csv.specs.Text.{Bytes, comma, cr, crlf, onFirst, records, fields}
 

@@ -1,13 +1,8 @@
 -- Decimal numbers as text: what `decimal` writes, and that it spells its number. Assumes nothing.
-use Prim.Native.Nat.{ℕ, zero, suc, _+_, _-_, _*_, _/_, _%_, _^_, _≤_, _<_}
-use mathlib.Core.Path.{_≡_, refl, sym, ap, _∙_}
-use mathlib.Core.List.{[], _∷_, _++_}
-use mathlib.Core.Logic.{inl, inr}
+use Rattle.laws.proofs.Base.{ℕ, zero, suc, _+_, _-_, _*_, _^_, _%_, _≤_, _<_, _≡_, refl, sym, ap, _∙_, [], _∷_, _++_, inl, inr, decLe}
+use Rattle.laws.proofs.Base.{arith, lt-ltb, le-ltb, length, getD, length-append, List·getD-append}
+use Prim.Native.Nat.{_/_}
 use native.Mathlib.Nat.{pow-suc}
-use native.Mathlib.Decide.{decLe}
-use native.Mathlib.Omega.{arith}
-use borrow.Author.Tests.{lt-ltb, le-ltb}
-use lib.ListN.{length, getD, length-append, List·getD-append}
 use Rattle.laws.specs.Tests.{Each}
 use Rattle.laws.proofs.Tests.{each-append}
 use Rattle.csv.specs.Text.{Bytes}

@@ -1,18 +1,8 @@
 -- Splitting: the first record of a text and the first field of a record, byte by byte, and what follows them.
 -- Assumes nothing.
-use Prim.Native.Nat.{ℕ, suc, _+_, _-_, _≤_, _<_}
-use mathlib.Core.Path.{_≡_, refl, sym, ap, _∙_}
-use mathlib.Core.Bool.{Bool, true, false, _&&_, cond}
-use mathlib.Core.List.{List, [], _∷_, _++_, append-assoc, append-nil}
-use mathlib.Core.Logic.{Dec·and}
-use native.Mathlib.Decide.{ℕ-discrete}
-use native.Mathlib.Nat.{le-refl, sub-zero}
-use native.Mathlib.Numerals.{add-one}
-use native.Mathlib.Omega.{arith}
-use borrow.Author.Tests.{eq-eqb, ne-eqb, eqb-true}
-use lib.Dec.{eqb}
-use lib.ListN.{length, getD, take, drop, length-drop, drop-of-length-le}
-use lib.Seq.{take-all, take-suc, drop-cons}
+use Rattle.laws.proofs.Base.{ℕ, suc, _+_, _-_, _≤_, _<_, _≡_, refl, sym, ap, _∙_, Bool, true, false, _&&_, cond, List, [], _∷_, _++_}
+use Rattle.laws.proofs.Base.{append-assoc, append-nil, Dec·and, ℕ-discrete, le-refl, sub-zero, add-one, arith, eq-eqb, ne-eqb, eqb-true}
+use Rattle.laws.proofs.Base.{eqb, length, getD, take, drop, length-drop, drop-of-length-le, drop-cons, take-suc, take-all}
 use Rattle.csv.specs.Text.{Bytes, comma, cr, lf, onFirst, records, fields}
 
 -- The rest of a text, as a slice is cut.

@@ -1,9 +1,5 @@
 -- Rounds with differences cut off at 0 run, settle and cross together with the exact ones. Assumes nothing.
-use Prim.Native.Nat.{ℕ, zero, suc, _≤_, _<_}
-use mathlib.Core.Path.{_≡_, sym}
-use mathlib.Core.Logic.{_↔_, _⊎_, inl, ⊎-elim}
-use native.Mathlib.Nat.{le-refl, le-step}
-use native.Mathlib.Omega.{arith}
+use Rattle.laws.proofs.Base.{ℕ, zero, suc, _≤_, _<_, _≡_, sym, _↔_, _⊎_, inl, ⊎-elim, le-refl, le-step, arith}
 use lib.IntN.{pos}
 use Rattle.laws.proofs.Search.{below-suc}
 use Rattle.laws.proofs.Whole.{lt-parts, parts-lt}

@@ -1,11 +1,9 @@
 -- Theorem 1: the rounds of a pair arrive or cross, one of the two, once, and arrive within the pair's slack. Theorem 10, its second half:
 -- they have ended after k + 1 where the horizon is at most 2^k. Assumes nothing.
-use Prim.Native.Nat.{ℕ, zero, suc, _+_, _-_, _^_, _≤_, _<_}
-use mathlib.Core.Path.{_≡_, sym, ap₂}
-use mathlib.Core.Logic.{_⊎_, inl, inr, ⊎-elim, ⊎-map}
-use native.Mathlib.Nat.{le-refl, one-le-pow}
-use native.Mathlib.Omega.{arith}
-use native.Mathlib.Decide.{decLe, ℕ-discrete}
+use Rattle.laws.proofs.Base.{ℕ, zero, suc, _+_, _-_, _^_, _≤_, _<_, _≡_, sym, _⊎_, inl, inr, ⊎-elim, ⊎-map, decLe, ℕ-discrete, le-refl}
+use Rattle.laws.proofs.Base.{arith}
+use mathlib.Core.Path.{ap₂}
+use native.Mathlib.Nat.{one-le-pow}
 use lib.IntN.{pos}
 use Rattle.laws.proofs.Best.{fold-ext}
 use Rattle.laws.proofs.Search.{every, below-suc}

@@ -1,10 +1,6 @@
 -- Questions asked in order: what `ask` says is settled by the questions alone, and so is the answer that they lead to.
 -- Assumes nothing.
-use Prim.Native.Nat.{ℕ, _≤_}
-use mathlib.Core.Path.{_≡_, sym, ap, _∙_, subst}
-use mathlib.Core.List.{List, [], _∷_, _++_}
-use mathlib.Core.Logic.{_↔_, _⊎_, inl, inr, ⊎-elim}
-use native.Mathlib.Omega.{arith}
+use Rattle.laws.proofs.Base.{ℕ, _≤_, _≡_, sym, ap, _∙_, subst, List, [], _∷_, _++_, _↔_, _⊎_, inl, inr, ⊎-elim, arith}
 use Rattle.curves.specs.Questions.{Question, AllYes, FirstNo, ask, answerTo, Reply, result, refusal, replyTo}
 
 pub not-both : (qs : List Question) (n : ℕ) → AllYes qs → FirstNo qs n → ⊥

@@ -1,8 +1,5 @@
 -- Closed pairs, whose figures keep to all that they imply: the causal pairs, and those that a round leaves as they are. Assumes nothing.
-use Prim.Native.Nat.{ℕ, zero, suc, _+_, _-_, _≤_, _<_, min, max}
-use mathlib.Core.Path.{_≡_, refl}
-use native.Mathlib.Nat.{le-refl}
-use native.Mathlib.Omega.{arith}
+use Rattle.laws.proofs.Base.{ℕ, zero, suc, _+_, _-_, _≤_, _<_, min, max, _≡_, refl, le-refl, arith}
 use Rattle.laws.proofs.Best.{min-best, max-best}
 use Rattle.curves.specs.Pairs.{horizon, figure, Pair, ceiling, least}
 use Rattle.curves.specs.Rounds.{cutOff, round, newUpper, newLower, Crossed, Settled, Causal}

@@ -1,10 +1,6 @@
 -- What a closure is worth, for a pair p whose rounds arrive at q: q is causal, has the streams of p, and its conforming starts are theirs.
 -- Assumes nothing.
-use Prim.Native.Nat.{ℕ, _≤_}
-use mathlib.Core.Path.{_≡_, sym, _∙_}
-use mathlib.Core.List.{List}
-use mathlib.Core.Logic.{_↔_}
-use native.Mathlib.Omega.{arith}
+use Rattle.laws.proofs.Base.{ℕ, _≤_, _≡_, sym, _∙_, List, _↔_, arith}
 use lib.IntN.{pos}
 use Rattle.curves.specs.Streams.{sum, Begins}
 use Rattle.curves.specs.Pairs.{horizon, Pair, ceiling, least, Equal}

@@ -1,9 +1,5 @@
 -- Every figure after any number of rounds is a combination of the figures before them: some ceilings less some leasts. Assumes nothing.
-use Prim.Native.Nat.{ℕ, zero, suc, _+_, _-_, _≤_, min, max}
-use mathlib.Core.Path.{_≡_, refl}
-use mathlib.Core.List.{List, [], _∷_, _++_}
-use native.Mathlib.Decide.{decLe}
-use native.Mathlib.Omega.{arith}
+use Rattle.laws.proofs.Base.{ℕ, zero, suc, _+_, _-_, _≤_, min, max, _≡_, refl, List, [], _∷_, _++_, decLe, arith}
 use Rattle.laws.specs.Tests.{Each}
 use Rattle.laws.proofs.Tests.{each-append}
 use Rattle.curves.specs.Pairs.{horizon, figure, Pair, ceiling, least}

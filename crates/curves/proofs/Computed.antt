@@ -1,8 +1,6 @@
 -- What the rounds of a given pair lead to, by computation: a test that passes is a proof. Assumes nothing.
-use Prim.Native.Nat.{ℕ, zero, suc}
-use mathlib.Core.Bool.{Bool, true, false, not, _&&_, _||_}
-use mathlib.Core.Logic.{_⊎_, inl, inr, ⊎-elim}
-use native.Mathlib.Decide.{ℕ-discrete}
+use Rattle.laws.proofs.Base.{ℕ, zero, suc, Bool, true, false, _&&_, _⊎_, inl, inr, ⊎-elim, ℕ-discrete}
+use mathlib.Core.Bool.{not, _||_}
 use lib.Dec.{T}
 use Rattle.curves.specs.Pairs.{Pair, horizon, Equal}
 use Rattle.curves.specs.Rounds.{whole, cutOff, given, round, after, Runs, Arrives, Crosses}

@@ -1,9 +1,5 @@
 -- One round with differences cut off at 0 has the figures of the exact one, or both cross. Assumes nothing.
-use Prim.Native.Nat.{ℕ, _+_, _-_, _≤_, _<_, min, max}
-use mathlib.Core.Path.{_≡_, sym, ap, _∙_}
-use mathlib.Core.Logic.{_⊎_, inl, inr, ⊎-map}
-use native.Mathlib.Omega.{arith}
-use native.Mathlib.Decide.{decLe}
+use Rattle.laws.proofs.Base.{ℕ, _+_, _-_, _≤_, _<_, min, max, _≡_, sym, ap, _∙_, _⊎_, inl, inr, ⊎-map, decLe, arith}
 use lib.IntN.{ℤ, pos, _+ℤ_, _-ℤ_}
 use lib.Signed.{_≤ℤ_, _<ℤ_}
 use Rattle.laws.specs.Ranges.{fold}

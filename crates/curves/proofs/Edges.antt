@@ -1,8 +1,5 @@
 -- A pair as a graph: the places 0 to H, and an edge from each to each. Assumes nothing.
-use Prim.Native.Nat.{ℕ, _+_, _-_, _≤_}
-use mathlib.Core.Path.{_≡_, ap}
-use native.Mathlib.Decide.{decLe}
-use native.Mathlib.Omega.{arith}
+use Rattle.laws.proofs.Base.{ℕ, _+_, _-_, _≤_, _≡_, ap, decLe, arith}
 use Rattle.curves.specs.Pairs.{horizon, figure, Pair, ceiling, least}
 use Rattle.curves.proofs.Tightened.{Tightened}
 

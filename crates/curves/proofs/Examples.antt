@@ -1,10 +1,5 @@
 -- The definitions of specs/ at small examples: each holds by computation. Assumes nothing.
-use Prim.Native.Nat.{ℕ, _^_, _≤_}
-use mathlib.Core.Path.{_≡_, refl}
-use mathlib.Core.List.{[], _∷_}
-use mathlib.Core.Logic.{Dec·and}
-use native.Mathlib.Decide.{decLe, decLt, ℕ-discrete}
-use native.Mathlib.Omega.{arith}
+use Rattle.laws.proofs.Base.{ℕ, _^_, _≤_, _≡_, refl, [], _∷_, Dec·and, decLe, decLt, ℕ-discrete, arith}
 use lib.IntN.{pos, negsuc}
 use Rattle.laws.specs.Ranges.{fold, table}
 use Rattle.laws.proofs.Search.{every}

@@ -1,12 +1,7 @@
 -- Figures: those of equal curves, of a pair and of a round. A round's are each the best of its candidates, in the order in which
 -- `best` chooses, so that upper and lower are one law. Assumes nothing.
-use Prim.Native.Nat.{ℕ, zero, suc, _+_, _-_, _≤_, _<_}
-use mathlib.Core.Path.{_≡_, refl, sym, ap, _∙_, subst₂}
-use mathlib.Core.List.{List}
-use native.Mathlib.Numerals.{add-one}
-use native.Mathlib.Omega.{arith}
-use lib.ListN.{length, getD}
-use lib.Seq.{ext-getD}
+use Rattle.laws.proofs.Base.{ℕ, zero, suc, _+_, _-_, _≤_, _<_, _≡_, refl, sym, ap, _∙_, List, add-one, arith, length, getD, ext-getD}
+use mathlib.Core.Path.{subst₂}
 use Rattle.laws.specs.Ranges.{fold, table}
 use Rattle.laws.proofs.Best.{IsBest, fold-holds, fold-first, fold-each}
 use Rattle.laws.proofs.Table.{length-table, getD-table, table-self, table-same}

@@ -1,11 +1,6 @@
 -- Every figure of a closed pair is met: one conforming stream follows the ceilings from its first tick, another the leasts.
 -- Assumes nothing.
-use Prim.Native.Nat.{ℕ, zero, suc, _+_, _-_, _≤_, _<_}
-use mathlib.Core.Path.{_≡_, refl, sym, ap, _∙_}
-use mathlib.Core.List.{List}
-use native.Mathlib.Nat.{add-zero, add-suc}
-use native.Mathlib.Omega.{arith}
-use lib.ListN.{length}
+use Rattle.laws.proofs.Base.{ℕ, zero, suc, _+_, _-_, _≤_, _<_, _≡_, refl, sym, ap, _∙_, List, add-zero, add-suc, arith, length}
 use Rattle.laws.specs.Ranges.{table}
 use Rattle.laws.proofs.Table.{length-table, getD-table}
 use Rattle.curves.specs.Streams.{sum, countsOf}

@@ -1,9 +1,7 @@
 -- A round, and so any number of them, keeps exactly the same unbounded conforming streams; a crossed pair has none.
 -- Assumes nothing.
-use Prim.Native.Nat.{ℕ, zero, suc, _+_, _-_, _≤_}
-use mathlib.Core.Path.{_≡_, sym, subst}
-use mathlib.Core.Logic.{_↔_, Iff·trans}
-use native.Mathlib.Omega.{arith}
+use Rattle.laws.proofs.Base.{ℕ, zero, suc, _+_, _-_, _≤_, _≡_, sym, subst, _↔_, arith}
+use mathlib.Core.Logic.{Iff·trans}
 use lib.IntN.{ℤ, pos, _+ℤ_, _-ℤ_, +ℤ-negℤ-cancel}
 use lib.Signed.{_≤ℤ_}
 use Rattle.laws.proofs.Best.{IsBest}

@@ -1,12 +1,8 @@
 -- A walk of more than H edges comes to some place twice, and is no dearer without the loop. Assumes nothing.
-use Prim.Native.Nat.{ℕ, zero, suc, _+_, _-_, _^_, _≤_}
-use mathlib.Core.Path.{_≡_, refl, sym, ap, ap₂, _∙_}
-use mathlib.Core.Bool.{cond}
-use native.Mathlib.Nat.{zero-add, one-le-pow}
-use native.Mathlib.Decide.{decLe, decLt}
-use native.Mathlib.Omega.{arith}
-use borrow.Author.Tests.{lt-ltb, le-ltb}
-use lib.Dec.{ltb}
+use Rattle.laws.proofs.Base.{ℕ, zero, suc, _+_, _-_, _^_, _≤_, _≡_, refl, sym, ap, _∙_, cond, decLe, decLt, zero-add, arith, lt-ltb, le-ltb}
+use Rattle.laws.proofs.Base.{ltb}
+use mathlib.Core.Path.{ap₂}
+use native.Mathlib.Nat.{one-le-pow}
 use Rattle.laws.proofs.Pigeonhole.{Repeats, pigeonhole}
 use Rattle.curves.specs.Streams.{sum}
 use Rattle.curves.specs.Pairs.{Pair}

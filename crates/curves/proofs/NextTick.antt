@@ -1,13 +1,7 @@
 -- One more tick: the counts that it can have are those from `lo` to before `end`, and on a closed pair, after a conforming stream,
 -- there is one. Assumes nothing.
-use Prim.Native.Nat.{ℕ, zero, suc, _+_, _-_, _≤_, _<_, min, max}
-use mathlib.Core.Path.{_≡_, refl, sym, ap}
-use mathlib.Core.List.{List, [], _∷_, _++_}
-use mathlib.Core.Logic.{_↔_}
-use native.Mathlib.Nat.{le-refl}
-use native.Mathlib.Omega.{arith}
-use native.Mathlib.Decide.{decLe, decLt}
-use lib.ListN.{length, getD, length-append, List·getD-append}
+use Rattle.laws.proofs.Base.{ℕ, zero, suc, _+_, _-_, _≤_, _<_, min, max, _≡_, refl, sym, ap, List, [], _∷_, _++_, _↔_, decLe, decLt}
+use Rattle.laws.proofs.Base.{le-refl, arith, length, getD, length-append, List·getD-append}
 use Rattle.laws.specs.Ranges.{fold}
 use Rattle.laws.proofs.Best.{min-best, max-best, fold-each, fold-both}
 use Rattle.curves.specs.Streams.{sum, countsOf}

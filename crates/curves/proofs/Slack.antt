@@ -1,8 +1,5 @@
 -- A round that changes a figure, and does not cross, makes the slack smaller. Assumes nothing.
-use Prim.Native.Nat.{ℕ, _+_, _-_, _≤_, _<_}
-use mathlib.Core.Path.{_≡_, ap}
-use native.Mathlib.Omega.{arith}
-use native.Mathlib.Decide.{decLt}
+use Rattle.laws.proofs.Base.{ℕ, _+_, _-_, _≤_, _<_, _≡_, ap, decLt, arith}
 use Rattle.laws.specs.Ranges.{fold}
 use Rattle.laws.proofs.Best.{sum-tight}
 use Rattle.curves.specs.Pairs.{horizon, Pair, ceiling, least, slack}

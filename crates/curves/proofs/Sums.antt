@@ -1,10 +1,6 @@
 -- Window sums: a window in two parts, and streams that agree on a window. Assumes nothing.
-use Prim.Native.Nat.{ℕ, zero, suc, _+_, _≤_, _<_}
-use mathlib.Core.Path.{_≡_, refl, sym, ap}
-use mathlib.Core.List.{List, [], _∷_, _++_}
-use native.Mathlib.Nat.{le-refl, add-zero, add-suc}
-use native.Mathlib.Omega.{arith}
-use lib.ListN.{length, getD, List·getD-append}
+use Rattle.laws.proofs.Base.{ℕ, zero, suc, _+_, _≤_, _<_, _≡_, refl, sym, ap, List, [], _∷_, _++_, le-refl, add-zero, add-suc, arith}
+use Rattle.laws.proofs.Base.{length, getD, List·getD-append}
 use Rattle.curves.specs.Streams.{sum, countsOf}
 
 -- A window of a + b ticks is its first a and its last b.

@@ -1,9 +1,5 @@
 -- What a round makes of a pair: figures that keep to all that the old ones imply, with 0 for the window of no ticks. Assumes nothing.
-use Prim.Native.Nat.{ℕ, zero, suc, _+_, _-_, _≤_, min, max}
-use mathlib.Core.Path.{_≡_}
-use native.Mathlib.Nat.{add-zero, zero-add}
-use native.Mathlib.Decide.{decLe}
-use native.Mathlib.Omega.{arith}
+use Rattle.laws.proofs.Base.{ℕ, zero, suc, _+_, _-_, _≤_, min, max, _≡_, decLe, add-zero, zero-add, arith}
 use Rattle.laws.proofs.Best.{min-best, max-best}
 use Rattle.curves.specs.Pairs.{horizon, figure, Pair, ceiling, least}
 use Rattle.curves.specs.Rounds.{cutOff, round, Crossed}

@@ -1,13 +1,8 @@
 -- The verdict on the newest tick: there is one that is right, it is found, and there is no other; and it depends on the last H ticks alone.
 -- Assumes nothing.
-use Prim.Native.Nat.{ℕ, zero, suc, _+_, _-_, _≤_}
-use mathlib.Core.Path.{_≡_, refl, sym, ap, _∙_, subst}
-use mathlib.Core.List.{List}
-use mathlib.Core.Logic.{_↔_, _⊎_, inl, inr, ⊎-elim, Dec·and}
-use native.Mathlib.Omega.{arith}
-use native.Mathlib.Decide.{decLe, decLt}
-use lib.ListN.{length, drop, length-drop}
-use lib.Seq.{getD-drop, drop-drop, drop-append-le}
+use Rattle.laws.proofs.Base.{ℕ, zero, suc, _+_, _-_, _≤_, _≡_, refl, sym, ap, _∙_, subst, List, _↔_, _⊎_, inl, inr, ⊎-elim, Dec·and, decLe}
+use Rattle.laws.proofs.Base.{decLt, arith, length, drop, length-drop, getD-drop}
+use lib.Seq.{drop-drop, drop-append-le}
 use Rattle.curves.specs.Streams.{sum, countsOf}
 use Rattle.curves.specs.Pairs.{Pair, horizon, ceiling, least}
 use Rattle.curves.specs.Conformance.{TooMany, TooFew, Inside}

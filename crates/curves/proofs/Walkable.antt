@@ -1,11 +1,6 @@
 -- Whatever a combination leads by way of, it can be walked between the places 0 to H; so no combination is better than the figures of the
 -- last of the pairs. Assumes nothing.
-use Prim.Native.Nat.{ℕ, _+_, _-_, _≤_}
-use mathlib.Core.Path.{_≡_}
-use mathlib.Core.List.{List, [], _∷_}
-use native.Mathlib.Nat.{le-refl, zero-add, sub-zero}
-use native.Mathlib.Decide.{decLe}
-use native.Mathlib.Omega.{arith}
+use Rattle.laws.proofs.Base.{ℕ, _+_, _-_, _≤_, _≡_, List, [], _∷_, decLe, le-refl, zero-add, sub-zero, arith}
 use Rattle.laws.specs.Tests.{Each}
 use Rattle.curves.specs.Pairs.{horizon, figure, Pair, ceiling, least}
 use Rattle.curves.proofs.Tightened.{Tightened}

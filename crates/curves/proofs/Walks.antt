@@ -1,10 +1,6 @@
 -- Walks over the edges of a pair: the edges of a later pair are short cuts, each twice as far as those of the one before it; and no loop
 -- gains anything. Assumes nothing.
-use Prim.Native.Nat.{ℕ, zero, suc, _+_, _-_, _^_, _≤_, _<_, min}
-use mathlib.Core.Path.{_≡_}
-use native.Mathlib.Nat.{add-zero, le-refl}
-use native.Mathlib.Numerals.{add-one}
-use native.Mathlib.Omega.{arith}
+use Rattle.laws.proofs.Base.{ℕ, zero, suc, _+_, _-_, _^_, _≤_, _<_, min, _≡_, le-refl, add-zero, add-one, arith}
 use Rattle.curves.specs.Streams.{sum}
 use Rattle.curves.specs.Pairs.{horizon, Pair, ceiling, least}
 use Rattle.curves.proofs.Sums.{split-at}

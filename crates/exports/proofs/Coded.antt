@@ -1,10 +1,6 @@
 -- Answers as numbers: what stands for an answer of closing and of reading, what an opening leads to, and that verdicts fit.
 -- Assumes nothing.
-use Prim.Native.Nat.{ℕ}
-use mathlib.Core.Path.{_≡_, refl, sym, ap, _∙_, subst}
-use mathlib.Core.Bool.{Bool, true, false}
-use mathlib.Core.List.{List}
-use native.Mathlib.Omega.{arith}
+use Rattle.laws.proofs.Base.{ℕ, _≡_, refl, sym, ap, _∙_, subst, Bool, true, false, List, arith}
 use Rattle.curves.specs.Ticks.{then, Verdict, tooMany, tooFew, Right}
 use Rattle.curves.specs.Pairs.{Pair}
 use Rattle.curves.specs.Questions.{Reply, result}

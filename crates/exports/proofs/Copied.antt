@@ -1,11 +1,6 @@
 -- A loop that copies the beginning of a list, as far as there is room. Assumes nothing.
-use Prim.Native.Nat.{ℕ, suc, _+_, _≤_, _<_}
-use mathlib.Core.Path.{_≡_, sym, ap, _∙_}
-use mathlib.Core.List.{List, _∷_, [], _++_, append-assoc}
-use native.Mathlib.Numerals.{add-one}
-use native.Mathlib.Omega.{arith}
-use lib.ListN.{length, getD, set, take, drop, drop-of-length-le}
-use lib.Seq.{set-at, take-suc, take-all, take-append-seam, drop-cons, length-take-le}
+use Rattle.laws.proofs.Base.{ℕ, suc, _+_, _≤_, _<_, _≡_, sym, ap, _∙_, List, [], _∷_, _++_, append-assoc, add-one, arith, length, getD, set}
+use Rattle.laws.proofs.Base.{take, drop, drop-of-length-le, length-take-le, drop-cons, take-suc, take-all, take-append-seam, set-at}
 use Rattle.report.specs.Report as report
 use Rattle.report.specs.declared.Output.{Output}
 use Rattle.exports.specs.Boundary.{reported, reportInto}

@@ -1,10 +1,7 @@
 -- A loop that answers the entries of a list in place, one after the other, carrying a state. Assumes nothing.
-use Prim.Native.Nat.{ℕ, _+_, _≤_, _<_}
-use mathlib.Core.Path.{_≡_, refl, sym, ap, _∙_}
-use mathlib.Core.List.{List, [], _∷_, _++_, append-assoc}
-use native.Mathlib.Omega.{arith}
-use lib.ListN.{length, getD, set, length-append}
-use lib.Seq.{getD-at, set-at}
+use Rattle.laws.proofs.Base.{ℕ, _+_, _≤_, _<_, _≡_, refl, sym, ap, _∙_, List, [], _∷_, _++_, append-assoc, arith, length, getD, set}
+use Rattle.laws.proofs.Base.{length-append, set-at}
+use lib.Seq.{getD-at}
 
 -- `run s xs` are the answers to xs from the state s: that to x is `entry s x`, and leaves the state `after s x`.
 module _ {S : Type 0} (run : S → List ℕ → List ℕ) (entry : S → ℕ → ℕ) (after : S → ℕ → S) where

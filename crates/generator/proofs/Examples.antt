@@ -1,8 +1,5 @@
 -- The definitions of specs/ at small examples: each holds by computation. Assumes nothing.
-use mathlib.Core.Path.{_≡_, refl}
-use mathlib.Core.List.{[], _∷_}
-use mathlib.Core.Logic.{Dec·and, ⊎-map}
-use native.Mathlib.Decide.{decLe, decLt}
+use Rattle.laws.proofs.Base.{_≡_, refl, [], _∷_, ⊎-map, Dec·and, decLe, decLt}
 use Rattle.laws.specs.Ranges.{fold}
 use Rattle.laws.proofs.Search.{every, every?}
 use Rattle.curves.specs.Streams.{sum}

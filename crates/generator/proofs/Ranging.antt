@@ -1,13 +1,6 @@
 -- Laws over plain variables for the counts that the next tick can have: what a turn of the loop keeps, and what a look answers.
 -- Assumes nothing.
-use Prim.Native.Nat.{ℕ, suc, _+_, _-_, _%_, _≤_, _<_, min, max}
-use mathlib.Core.Path.{_≡_, sym, ap, _∙_}
-use mathlib.Core.List.{List}
-use mathlib.Core.Logic.{_↔_}
-use native.Mathlib.Numerals.{add-one}
-use native.Mathlib.Nat.{le-refl}
-use native.Mathlib.Omega.{arith}
-use lib.ListN.{length, getD}
+use Rattle.laws.proofs.Base.{ℕ, suc, _+_, _-_, _%_, _≤_, _<_, min, max, _≡_, sym, ap, _∙_, List, _↔_, le-refl, add-one, arith, length, getD}
 use Rattle.curves.specs.Pairs.{Pair, pairOf, figure}
 use Rattle.curves.specs.Conformance.{Inside}
 use Rattle.curves.specs.Ticks.{then, last, Keeps}

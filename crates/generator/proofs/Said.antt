@@ -1,9 +1,5 @@
 -- What the operations answer, case by case, and the views of the states that they hand back. Assumes nothing.
-use Prim.Native.Nat.{ℕ, suc, _-_, _≤_, _<_, _%_}
-use mathlib.Core.Path.{_≡_, refl, sym, ap}
-use mathlib.Core.Logic.{inl, inr}
-use native.Mathlib.Nat.{le-refl, mod-lt}
-use native.Mathlib.Omega.{arith}
+use Rattle.laws.proofs.Base.{ℕ, suc, _-_, _%_, _≤_, _<_, _≡_, refl, sym, ap, inl, inr, le-refl, mod-lt, arith}
 use Rattle.curves.specs.Ticks.{then, Judged, Keeps, Range}
 use Rattle.curves.specs.Questions.{Reply, result, refusal}
 use Rattle.curves.proofs.Asked.{said-no, said-yes, no-refusal, same-result, result-from}

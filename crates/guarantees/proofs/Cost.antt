@@ -1,8 +1,5 @@
 -- No answer of closing tells more rounds than a pair of its horizon can take. Assumes nothing.
-use Prim.Native.Nat.{ℕ, _≤_}
-use mathlib.Core.Path.{ap}
-use mathlib.Core.Logic.{⊎-elim}
-use native.Mathlib.Omega.{arith}
+use Rattle.laws.proofs.Base.{ℕ, _≤_, ap, ⊎-elim, arith}
 use Rattle.curves.specs.Pairs.{Pair}
 use Rattle.curves.specs.Rounds.{whole, Runs}
 use Rattle.curves.proofs.Bound.{runs-within-logarithm}

@@ -1,11 +1,7 @@
 -- Demand 2, the generator: it sends what the monitor would pass. Assumes nothing.
-use Prim.Native.Nat.{ℕ, suc, _+_, _-_, _≤_, _%_}
-use mathlib.Core.Path.{_≡_, refl, sym, ap, _∙_, subst}
-use mathlib.Core.List.{List, [], _∷_, _++_, append-assoc, append-nil, map}
-use mathlib.Core.Logic.{_↔_}
+use Rattle.laws.proofs.Base.{ℕ, suc, _+_, _-_, _%_, _≤_, _≡_, refl, sym, ap, _∙_, subst, List, [], _∷_, _++_, map, append-assoc, append-nil}
+use Rattle.laws.proofs.Base.{_↔_, arith, length}
 use native.Mathlib.Nat.{mod-eq-of-lt}
-use native.Mathlib.Omega.{arith}
-use lib.ListN.{length}
 use Rattle.laws.specs.Tests.{Each}
 use Rattle.curves.specs.Streams.{countLimit}
 use Rattle.curves.specs.Pairs.{Pair, horizon}

@@ -1,9 +1,5 @@
 -- Of a stream a state holds the last H − 1 ticks, and that is as good as the whole. Assumes nothing.
-use Prim.Native.Nat.{ℕ, suc, _-_, _≤_, _<_}
-use mathlib.Core.Path.{_≡_, sym, ap, _∙_}
-use mathlib.Core.List.{List, []}
-use native.Mathlib.Omega.{arith}
-use lib.ListN.{length}
+use Rattle.laws.proofs.Base.{ℕ, suc, _-_, _≤_, _<_, _≡_, sym, ap, _∙_, List, [], arith, length}
 use lib.Seq.{drop-nil}
 use Rattle.curves.specs.Pairs.{Pair, horizon}
 use Rattle.curves.specs.Ticks.{then, newest}

@@ -1,13 +1,8 @@
 -- Document 01's marked figures hold: one test over the list, computed, and what a test that passes proves. Assumes nothing.
-use Prim.Native.Nat.{ℕ, _≤_}
-use mathlib.Core.Path.{_≡_, refl, sym, ap, _∙_, subst}
-use mathlib.Core.Bool.{Bool, true, false, _&&_}
-use mathlib.Core.List.{List, [], _∷_, _++_}
-use mathlib.Core.Logic.{⊎-map, Dec·and, Dec·not}
-use native.Mathlib.Decide.{decLe, decLt, ℕ-discrete}
-use native.Mathlib.Omega.{arith}
-use lib.Dec.{T, eqb, eqb→eq}
-use lib.ListN.{length}
+use Rattle.laws.proofs.Base.{ℕ, _≤_, _≡_, refl, sym, ap, _∙_, subst, Bool, true, false, _&&_, List, [], _∷_, _++_, ⊎-map, Dec·and, decLe}
+use Rattle.laws.proofs.Base.{decLt, ℕ-discrete, arith, eqb, length}
+use mathlib.Core.Logic.{Dec·not}
+use lib.Dec.{T, eqb→eq}
 use Rattle.laws.specs.Ranges.{fold, table}
 use Rattle.laws.proofs.Search.{every, every?}
 use Rattle.laws.proofs.Table.{length-table}

@@ -1,10 +1,6 @@
 -- Demand 2, the monitor: in any legal state, and over a whole stream. Assumes nothing.
-use Prim.Native.Nat.{ℕ, suc, _-_, _≤_}
-use mathlib.Core.Path.{_≡_, refl, sym, ap, _∙_, subst}
-use mathlib.Core.Bool.{true}
-use mathlib.Core.List.{List, [], _∷_, _++_, append-assoc, append-nil, map}
-use mathlib.Core.Logic.{_↔_}
-use native.Mathlib.Omega.{arith}
+use Rattle.laws.proofs.Base.{ℕ, suc, _-_, _≤_, _≡_, refl, sym, ap, _∙_, subst, true, List, [], _∷_, _++_, map, append-assoc, append-nil}
+use Rattle.laws.proofs.Base.{_↔_, arith}
 use Rattle.laws.specs.Tests.{Each}
 use Rattle.laws.proofs.Tests.{each-append}
 use Rattle.curves.specs.Pairs.{Pair, horizon}

@@ -1,11 +1,6 @@
 -- Reading gives back the pair that was rendered. Assumes nothing.
-use Prim.Native.Nat.{ℕ, zero, suc, _*_, _≤_, _<_}
-use mathlib.Core.Path.{_≡_, refl, sym, ap, _∙_, subst}
-use mathlib.Core.List.{List, [], _∷_, _++_, map, append-assoc, append-nil}
-use native.Mathlib.Nat.{le-refl}
-use native.Mathlib.Omega.{arith}
-use lib.ListN.{length, getD, take, drop}
-use lib.Seq.{take-append-seam}
+use Rattle.laws.proofs.Base.{ℕ, zero, suc, _*_, _≤_, _<_, _≡_, refl, sym, ap, _∙_, subst, List, [], _∷_, _++_, map, append-assoc}
+use Rattle.laws.proofs.Base.{append-nil, le-refl, arith, length, getD, take, drop, take-append-seam}
 use Rattle.laws.specs.Ranges.{fold, table}
 use Rattle.laws.specs.Tests.{Each}
 use Rattle.laws.proofs.Tests.{each-map, each-append}

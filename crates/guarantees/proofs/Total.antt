@@ -1,7 +1,5 @@
 -- Demand 1: refusals of the monitor and the generator. Assumes nothing.
-use Prim.Native.Nat.{ℕ}
-use mathlib.Core.Path.{_≡_, sym, _∙_, subst}
-use mathlib.Core.List.{[], _∷_}
+use Rattle.laws.proofs.Base.{ℕ, _≡_, sym, _∙_, subst, [], _∷_}
 use Rattle.curves.specs.Questions.{Reply, result, refusal}
 use Rattle.curves.proofs.Asked.{no-refusal, refusal-iff}
 use Rattle.history.specs.States.{question12}

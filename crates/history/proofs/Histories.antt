@@ -1,14 +1,11 @@
 -- Laws over plain variables that the proofs about a history cite.
 -- Assumes nothing.
-use Prim.Native.Nat.{ℕ, suc, _+_, _-_, _≤_, _<_}
-use mathlib.Core.Path.{_≡_, refl, sym, ap, _∙_, subst, subst⁻¹}
-use mathlib.Core.List.{List, [], _∷_, _++_}
-use native.Mathlib.Numerals.{add-one}
+use Rattle.laws.proofs.Base.{ℕ, suc, _+_, _-_, _≤_, _<_, _≡_, refl, sym, ap, _∙_, subst, subst⁻¹, List, [], _∷_, _++_, add-one, arith}
+use Rattle.laws.proofs.Base.{length, getD, set, take, drop, replicate, length-append, length-drop, length-set, length-take-le, ext-getD}
+use Rattle.laws.proofs.Base.{getD-drop, take-at}
 use types.Run.{OneOf, miss}
 use denote.Enum.Declared.{tagOf}
-use native.Mathlib.Omega.{arith}
-use lib.ListN.{length, getD, set, take, drop, replicate, length-set, length-drop, length-append}
-use lib.Seq.{length-take-le, take-at, take-suc-set, getD-take, getD-drop, ext-getD}
+use lib.Seq.{take-suc-set, getD-take}
 use Rattle.laws.specs.Ranges.{table}
 use Rattle.laws.proofs.Table.{Filled, stored, later, filled-front, length-table, getD-table, table-self}
 use Rattle.curves.specs.Pairs.{Pair, figure, pairOf, horizon}

@@ -1,11 +1,6 @@
 -- What a legal history has: room for a tick, and slices that are what its view has.
 -- Assumes nothing.
-use Prim.Native.Nat.{ℕ, suc, _≤_, _<_}
-use mathlib.Core.Path.{_≡_, sym}
-use native.Mathlib.Omega.{arith}
-use mathlib.Core.List.{List}
-use lib.ListN.{length, take}
-use lib.Seq.{length-take-le}
+use Rattle.laws.proofs.Base.{ℕ, suc, _≤_, _<_, _≡_, sym, List, arith, length, take, length-take-le}
 use Rattle.curves.specs.Pairs.{pairOf}
 use Rattle.curves.specs.Ticks.{then, Judged}
 use Rattle.curves.proofs.NextTick.{length-then}

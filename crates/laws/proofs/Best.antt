@@ -1,10 +1,8 @@
 -- `fold`: a step more, the best of a range in any order, and what carries a fold from one kind of number to another.
 -- Assumes nothing.
-use Prim.Native.Nat.{ℕ, zero, suc, _+_, _-_, _≤_, min, max}
-use mathlib.Core.Path.{_≡_, refl, ap, _∙_, subst}
-use mathlib.Core.Logic.{⊎-elim}
-use native.Mathlib.Nat.{le-refl, le-trans, le-step, le-suc-iff, min-le-left, min-le-right, le-min, le-max-left, le-max-right, max-le}
-use native.Mathlib.Omega.{arith}
+use Rattle.laws.proofs.Base.{ℕ, zero, suc, _+_, _-_, _≤_, min, max, _≡_, refl, ap, _∙_, subst, ⊎-elim, le-refl, le-step, le-trans}
+use Rattle.laws.proofs.Base.{le-suc-iff, arith}
+use native.Mathlib.Nat.{min-le-left, min-le-right, le-min, le-max-left, le-max-right, max-le}
 use Rattle.laws.specs.Ranges.{fold}
 
 -- A turn of a loop that counts k up from 1 and has taken f 1 to f (k − 1).

@@ -1,4 +1,5 @@
 -- Laws over plain variables, each stated once: what the specifications, the theory and the loops' proofs cite. Assumes nothing.
+pub mod Base
 pub mod Best
 pub mod Table
 pub mod Search

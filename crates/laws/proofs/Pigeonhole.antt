@@ -1,9 +1,5 @@
 -- The pigeonhole principle: of n + 2 numbers from 0 to n two are equal. Assumes nothing.
-use Prim.Native.Nat.{ℕ, zero, suc, _-_, _≤_, _<_, min, max}
-use mathlib.Core.Path.{_≡_, sym}
-use mathlib.Core.Logic.{_⊎_, inl, inr, ⊎-elim}
-use native.Mathlib.Decide.{decLt, ℕ-discrete}
-use native.Mathlib.Omega.{arith}
+use Rattle.laws.proofs.Base.{ℕ, zero, suc, _-_, _≤_, _<_, min, max, _≡_, sym, _⊎_, inl, inr, ⊎-elim, decLt, ℕ-discrete, arith}
 use Rattle.laws.proofs.Search.{every}
 
 -- Two places, from 0 to n, with one number.

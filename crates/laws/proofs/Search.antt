@@ -1,10 +1,7 @@
 -- A search through the windows of a range: every one is as wanted, or something else is found.
 -- Assumes nothing.
-use Prim.Native.Nat.{ℕ, zero, suc, _≤_, _<_}
-use mathlib.Core.Path.{_≡_, sym, subst}
-use mathlib.Core.Logic.{_⊎_, inl, inr, ⊎-elim}
-use native.Mathlib.Nat.{le-refl, le-step, le-suc-iff, le-of-suc-le-suc, eq-or-lt-of-le}
-use native.Mathlib.Omega.{arith}
+use Rattle.laws.proofs.Base.{ℕ, zero, suc, _≤_, _<_, _≡_, sym, subst, _⊎_, inl, inr, ⊎-elim, le-refl, le-step, le-suc-iff, arith}
+use native.Mathlib.Nat.{le-of-suc-le-suc, eq-or-lt-of-le}
 
 unfoldable pub every : (P : ℕ → Type 0) (Q : Type 0) (n : ℕ) → ((d : ℕ) → 1 ≤ d → d ≤ n → P d ⊎ Q) → ((d : ℕ) → 1 ≤ d → d ≤ n → P d) ⊎ Q
 every P Q zero h = inl (λ d p q. absurd (omega arith))

@@ -1,16 +1,13 @@
 -- `table`: its length and entries, tables that agree, and the fill of a list from the front, one store a turn.
 -- Assumes nothing.
-use Prim.Native.Nat.{ℕ, zero, suc, _+_, _-_, _≤_, _<_}
-use mathlib.Core.Path.{_≡_, refl, sym, ap, _∙_, subst}
-use mathlib.Core.List.{List, [], _∷_, _++_, map, map-append, append-assoc, append-nil}
-use mathlib.Core.Logic.{⊎-elim}
-use native.Mathlib.Nat.{le-refl, le-step, le-suc-iff, eq-or-lt-of-le, le-of-suc-le-suc}
-use native.Mathlib.Numerals.{add-one}
-use native.Mathlib.Decide.{ℕ-discrete}
-use native.Mathlib.Omega.{arith}
-use lib.ListN.{length, getD, set, drop, replicate, length-append, length-set, drop-of-length-le, replicate-append-replicate}
-use lib.ListN.{List·getD-append}
-use lib.Seq.{getD-at, set-at, getD-set-same, getD-set-other, getD-append-add, getD-drop, drop-cons, ext-getD}
+use Rattle.laws.proofs.Base.{ℕ, zero, suc, _+_, _-_, _≤_, _<_, _≡_, refl, sym, ap, _∙_, subst, List, [], _∷_, _++_, map}
+use Rattle.laws.proofs.Base.{append-assoc, append-nil, ⊎-elim, ℕ-discrete, le-refl, le-step, le-suc-iff, add-one, arith, length}
+use Rattle.laws.proofs.Base.{getD, set, drop, replicate, length-append, length-set, drop-of-length-le, List·getD-append, ext-getD}
+use Rattle.laws.proofs.Base.{getD-drop, drop-cons, set-at}
+use mathlib.Core.List.{map-append}
+use native.Mathlib.Nat.{eq-or-lt-of-le, le-of-suc-le-suc}
+use lib.ListN.{replicate-append-replicate}
+use lib.Seq.{getD-at, getD-set-same, getD-set-other, getD-append-add}
 use Rattle.laws.specs.Ranges.{table}
 use Rattle.laws.specs.Tests.{Each}
 use Rattle.laws.proofs.Tests.{each-append, each-parts}

@@ -1,15 +1,9 @@
 -- Tests: what an answer tells, a loop of tests, and every entry of a list. Assumes nothing.
-use Prim.Native.Nat.{ℕ, _+_, _≤_, _<_}
-use mathlib.Core.Path.{_≡_, refl, ap, subst}
-use mathlib.Core.Bool.{Bool, true, false, not, _&&_}
-use mathlib.Core.List.{List, [], _∷_, _++_}
-use mathlib.Core.Logic.{_↔_, Dec·and}
-use native.Mathlib.Decide.{ℕ-discrete}
-use native.Mathlib.Omega.{arith}
-use borrow.Author.Count.{below-more}
-use borrow.Author.Tests.{leb-true, leb-false, eqb-true, eqb-false, not-true, not-false}
-use lib.Dec.{leb, eqb}
-use lib.ListN.{length, getD, drop}
+use Rattle.laws.proofs.Base.{ℕ, _+_, _≤_, _<_, _≡_, refl, ap, subst, Bool, true, false, _&&_, List, [], _∷_, _++_, _↔_, Dec·and}
+use Rattle.laws.proofs.Base.{ℕ-discrete, arith, below-more, eqb-true, eqb-false, eqb, length, getD, drop}
+use mathlib.Core.Bool.{not}
+use borrow.Author.Tests.{leb-true, leb-false, not-true, not-false}
+use lib.Dec.{leb}
 use Rattle.laws.specs.Tests.{Either, Tells, Each}
 
 pub either-true : (P Q : Type 0) (b : Bool) → b ≡ true → Either b P Q → P

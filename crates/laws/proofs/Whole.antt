@@ -1,14 +1,11 @@
 -- Whole numbers for `omega`, which reads natural numbers: z is `up z` less `down z`, an order of whole numbers is an order of sums of
 -- these, and a sum or a difference has its parts up to what both gain. Assumes nothing.
-use Prim.Native.Nat.{ℕ, zero, suc, _+_, _-_, _≤_, _<_, min, max}
-use mathlib.Core.Path.{_≡_, refl, sym, ap, _∙_, subst}
-use mathlib.Core.Bool.{Bool, true, false, cond}
-use native.Mathlib.Omega.{arith}
-use lib.Dec.{T, ltb, leb→le, le→leb, ltb→lt, lt→ltb}
+use Rattle.laws.proofs.Base.{ℕ, zero, suc, _+_, _-_, _≤_, _<_, min, max, _≡_, refl, sym, ap, _∙_, subst, Bool, true, false, cond}
+use Rattle.laws.proofs.Base.{decLe, arith, lt-ltb, le-ltb, ltb}
+use lib.Dec.{T, leb→le, le→leb, ltb→lt, lt→ltb}
 use lib.IntN.{ℤ, pos, negsuc, negℤ, subℕ, _+ℤ_, _-ℤ_}
 use lib.Signed.{_≤ℤ_, _<ℤ_, leZ, ≤ℤ-refl}
-use native.Mathlib.Decide.{decLe}
-use borrow.Author.Tests.{lt-ltb, le-ltb, ltb-true, ltb-false, leb-false}
+use borrow.Author.Tests.{ltb-true, ltb-false, leb-false}
 use Rattle.laws.proofs.Best.{IsBest}
 
 abbrev pub up : ℤ → ℕ

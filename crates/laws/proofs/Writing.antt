@@ -1,13 +1,10 @@
 -- Writing: two texts one after the other, a text entry by entry, and what is left of a list of one entry throughout.
 -- Assumes nothing.
-use Prim.Native.Nat.{ℕ, zero, suc, _+_, _-_, _≤_, _<_}
-use mathlib.Core.Path.{_≡_, refl, sym, ap, _∙_}
-use mathlib.Core.List.{List, [], _∷_, _++_}
-use native.Mathlib.Nat.{add-zero, zero-add, add-suc, suc-add, sub-zero, zero-sub, suc-sub-suc}
-use native.Mathlib.Numerals.{add-one}
-use native.Mathlib.Omega.{arith}
-use lib.ListN.{length, getD, set, take, drop, replicate, length-append, length-replicate}
-use lib.Seq.{sets, length-sets, sets-eq, take-suc, take-all}
+use Rattle.laws.proofs.Base.{ℕ, zero, suc, _+_, _-_, _≤_, _<_, _≡_, refl, sym, ap, _∙_, List, [], _∷_, _++_, add-zero, zero-add}
+use Rattle.laws.proofs.Base.{add-suc, sub-zero, add-one, arith, length, getD, set, take, drop, replicate, length-append}
+use Rattle.laws.proofs.Base.{length-replicate, sets, take-suc, take-all}
+use native.Mathlib.Nat.{suc-add, zero-sub, suc-sub-suc}
+use lib.Seq.{length-sets, sets-eq}
 use Rattle.laws.specs.Writing.{Wrote}
 
 -- Two texts one after the other are put where both together would be.

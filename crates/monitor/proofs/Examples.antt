@@ -1,9 +1,5 @@
 -- The definitions of specs/ at small examples: each holds by computation. Assumes nothing.
-use mathlib.Core.Path.{_≡_, refl}
-use mathlib.Core.Bool.{true, false}
-use mathlib.Core.List.{[], _∷_}
-use mathlib.Core.Logic.{Dec·and, ⊎-map}
-use native.Mathlib.Decide.{decLe, decLt}
+use Rattle.laws.proofs.Base.{_≡_, refl, true, false, [], _∷_, ⊎-map, Dec·and, decLe, decLt}
 use Rattle.laws.proofs.Search.{every, every?}
 use Rattle.curves.specs.Streams.{sum}
 use Rattle.curves.specs.Pairs.{Pair, pairOf, figure}

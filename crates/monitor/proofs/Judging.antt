@@ -1,11 +1,6 @@
 -- Laws over plain variables for judging a tick: what a turn of the loop keeps, and the verdict at each way out.
 -- Assumes nothing.
-use Prim.Native.Nat.{ℕ, suc, _+_, _-_, _≤_, _<_}
-use mathlib.Core.Path.{_≡_, sym, ap}
-use mathlib.Core.List.{List}
-use native.Mathlib.Numerals.{add-one}
-use native.Mathlib.Omega.{arith}
-use lib.ListN.{length, getD}
+use Rattle.laws.proofs.Base.{ℕ, suc, _+_, _-_, _≤_, _<_, _≡_, sym, ap, List, add-one, arith, length, getD}
 use Rattle.curves.specs.Pairs.{Pair, pairOf, figure}
 use Rattle.curves.specs.Conformance.{TooMany, TooFew}
 use Rattle.curves.specs.Ticks.{then, last, Judged, Verdict, passed, tooMany, tooFew, Right}

@@ -1,8 +1,5 @@
 -- The definitions compute: a record is given with its length, or refused with 7 or 8. Assumes nothing.
-use mathlib.Core.Path.{_≡_, refl}
-use mathlib.Core.List.{[], _∷_, _++_}
-use mathlib.Core.Logic.{⊎-map, Dec·and}
-use native.Mathlib.Decide.{decLe, ℕ-discrete}
+use Rattle.laws.proofs.Base.{_≡_, refl, [], _∷_, _++_, ⊎-map, Dec·and, decLe, ℕ-discrete}
 use Rattle.laws.proofs.Tests.{each?}
 use Rattle.curves.specs.Questions.{ask, result, refusal}
 use Rattle.csv.specs.Text.{comma, crlf, records, fields}

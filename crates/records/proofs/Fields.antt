@@ -1,12 +1,7 @@
 -- Laws over plain bytes: the fields of a record as the code cuts them, and what they were found to be.
 -- Assumes nothing.
-use Prim.Native.Nat.{ℕ, _+_, _-_, _≤_}
-use mathlib.Core.Path.{_≡_, refl, sym, ap, _∙_, subst}
-use mathlib.Core.List.{[], _∷_}
-use mathlib.Core.Logic.{inl, inr}
-use native.Mathlib.Decide.{ℕ-discrete}
-use native.Mathlib.Omega.{arith}
-use lib.ListN.{length, getD, take, drop}
+use Rattle.laws.proofs.Base.{ℕ, _+_, _-_, _≤_, _≡_, refl, sym, ap, _∙_, subst, [], _∷_, inl, inr, ℕ-discrete, arith, length, getD, take}
+use Rattle.laws.proofs.Base.{drop}
 use Rattle.laws.specs.Tests.{Each}
 use Rattle.curves.specs.Questions.{result, refusal}
 use Rattle.csv.specs.Text.{Bytes, fields}

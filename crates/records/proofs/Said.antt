@@ -1,10 +1,6 @@
 -- What `recording` says, case by case: refused where 7 or 8 is the first question that is answered no, else the record's constraint.
 -- Assumes nothing.
-use Prim.Native.Nat.{ℕ}
-use mathlib.Core.Path.{_≡_, refl}
-use mathlib.Core.List.{[], _∷_}
-use mathlib.Core.Logic.{_↔_}
-use lib.ListN.{length}
+use Rattle.laws.proofs.Base.{ℕ, _≡_, refl, [], _∷_, _↔_, length}
 use Rattle.curves.specs.Questions.{AllYes, FirstNo, result, refusal}
 use Rattle.curves.proofs.Asked.{said-yes, refusal-iff, result-from}
 use Rattle.csv.specs.Text.{Bytes}

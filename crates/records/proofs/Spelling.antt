@@ -1,17 +1,9 @@
 -- Laws over plain bytes: line ends, and the number that digits spell.
 -- Assumes nothing.
-use Prim.Native.Nat.{ℕ, _+_, _-_, _*_, _^_, _≤_, _<_}
-use mathlib.Core.Path.{_≡_, refl, sym, _∙_}
-use mathlib.Core.Bool.{Bool, true, false}
-use mathlib.Core.List.{[], _∷_}
-use mathlib.Core.Logic.{_↔_}
-use native.Mathlib.Nat.{add-zero, pow-suc, pow-le-pow-right}
-use native.Mathlib.Numerals.{add-one}
-use native.Mathlib.Omega.{arith}
-use borrow.Author.Tests.{eqb-true, eqb-false}
-use lib.Dec.{eqb}
-use lib.ListN.{length, getD, drop, drop-of-length-le, List·getD-eq-default}
-use lib.Seq.{getD-drop, drop-cons}
+use Rattle.laws.proofs.Base.{ℕ, _+_, _-_, _*_, _^_, _≤_, _<_, _≡_, refl, sym, _∙_, Bool, true, false, [], _∷_, _↔_, add-zero, add-one}
+use Rattle.laws.proofs.Base.{arith, eqb-true, eqb-false, eqb, length, getD, drop, drop-of-length-le, getD-drop, drop-cons}
+use native.Mathlib.Nat.{pow-suc, pow-le-pow-right}
+use lib.ListN.{List·getD-eq-default}
 use Rattle.laws.specs.Tests.{Tells, Each}
 use Rattle.csv.specs.Text.{Bytes, cr, lf}
 use Rattle.csv.specs.Numbers.{Digit, valueAfter, value}

@@ -1,10 +1,5 @@
 -- What `render` has to show at each of its ends, over plain values. Assumes nothing.
-use Prim.Native.Nat.{ℕ, _≤_}
-use mathlib.Core.Path.{_≡_, sym, ap, _∙_}
-use mathlib.Core.List.{[]}
-use native.Mathlib.Nat.{zero-add}
-use lib.ListN.{length}
-use lib.Seq.{sets}
+use Rattle.laws.proofs.Base.{ℕ, _≤_, _≡_, sym, ap, _∙_, [], zero-add, length, sets}
 use Rattle.laws.specs.Writing.{Wrote}
 use Rattle.laws.proofs.Writing.{sets-copies}
 use Rattle.curves.specs.Pairs.{Pair}

@@ -1,12 +1,8 @@
 -- Laws over plain variables that the proofs of this crate's functions cite.
 -- Assumes nothing.
-use Prim.Native.Nat.{ℕ, zero, suc, _+_, _-_, _*_, _/_, _≤_, _<_}
-use mathlib.Core.Path.{_≡_, refl, sym, ap, _∙_}
-use mathlib.Core.List.{_++_}
-use native.Mathlib.Numerals.{add-one}
-use native.Mathlib.Decide.{decLe}
-use native.Mathlib.Omega.{arith}
-use lib.ListN.{length, getD, length-append}
+use Rattle.laws.proofs.Base.{ℕ, zero, suc, _+_, _-_, _*_, _≤_, _<_, _≡_, refl, sym, ap, _∙_, _++_, decLe, add-one, arith, length, getD}
+use Rattle.laws.proofs.Base.{length-append}
+use Prim.Native.Nat.{_/_}
 use Rattle.laws.specs.Ranges.{fold}
 use Rattle.curves.specs.Pairs.{Pair, horizon, figure, ceiling, least}
 use Rattle.curves.specs.Questions.{AllYes}

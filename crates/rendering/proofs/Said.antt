@@ -1,10 +1,6 @@
 -- What `rendering` says, case by case: refused where a question is the first that is answered no, else the text.
 -- Assumes nothing.
-use Prim.Native.Nat.{ℕ, _+_, _≤_}
-use mathlib.Core.Path.{_≡_, refl}
-use native.Mathlib.Nat.{le-refl}
-use native.Mathlib.Omega.{arith}
-use lib.ListN.{length, length-append}
+use Rattle.laws.proofs.Base.{ℕ, _+_, _≤_, _≡_, refl, le-refl, arith, length, length-append}
 use Rattle.curves.specs.Pairs.{Pair, horizon}
 use Rattle.curves.specs.Questions.{AllYes, FirstNo}
 use Rattle.curves.proofs.Asked.{said-no, said-yes, Positive, no-iff, yes-iff}

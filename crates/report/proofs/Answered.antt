@@ -1,13 +1,5 @@
 -- What a step's answer leads to, by its number. Assumes nothing.
-use Prim.Native.Nat.{ℕ, _≤_, _<_}
-use mathlib.Core.Path.{_≡_, sym, ap, _∙_}
-use mathlib.Core.Bool.{cond}
-use mathlib.Core.List.{List, []}
-use mathlib.Core.Logic.{⊎-elim}
-use native.Mathlib.Omega.{arith}
-use lib.Dec.{eqb}
-use lib.ListN.{length, take, replicate}
-use lib.Seq.{length-take-le}
+use Rattle.laws.proofs.Base.{ℕ, _≤_, _<_, _≡_, sym, ap, _∙_, cond, List, [], ⊎-elim, arith, eqb, length, take, replicate, length-take-le}
 use Rattle.curves.specs.Pairs.{Pair, pairOf, first}
 use Rattle.curves.specs.Questions.{ask}
 use Rattle.bounds.specs.Bounds.{maxHorizon}

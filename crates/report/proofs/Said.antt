@@ -1,18 +1,11 @@
 -- What the output is, from what reading, closing and rendering answer. Assumes nothing.
-use Prim.Native.Nat.{ℕ, zero, suc, _-_, _≤_}
-use mathlib.Core.Path.{_≡_, refl, sym, ap, _∙_, subst}
-use mathlib.Core.Bool.{Bool, cond}
-use mathlib.Core.List.{List, [], _∷_, _++_}
-use mathlib.Core.Logic.{_⊎_, inl, inr, ⊎-elim}
-use native.Mathlib.Omega.{arith}
-use lib.Dec.{eqb}
-use borrow.Author.Tests.{eq-eqb, ne-eqb}
-use lib.ListN.{length, getD, take, replicate, length-replicate, length-append, List·getD-append}
+use Rattle.laws.proofs.Base.{ℕ, zero, suc, _-_, _≤_, _≡_, refl, sym, ap, _∙_, subst, Bool, cond, List, [], _∷_, _++_, _⊎_, inl, inr, ⊎-elim}
+use Rattle.laws.proofs.Base.{arith, eq-eqb, ne-eqb, eqb, length, getD, take, replicate, length-append, length-replicate, List·getD-append}
+use Rattle.laws.proofs.Base.{length-take-le, take-append-seam}
 use Rattle.laws.specs.Ranges.{fold}
 use Rattle.laws.specs.Tests.{Each}
 use Rattle.laws.proofs.Table.{length-table}
 use Rattle.curves.specs.Streams.{Stream}
-use lib.Seq.{take-append-seam, length-take-le}
 use Rattle.curves.specs.Pairs.{Pair, horizon, ceiling, least}
 use Rattle.curves.specs.Questions.{AllYes, FirstNo, ask}
 use Rattle.curves.proofs.Asked.{no-parts}

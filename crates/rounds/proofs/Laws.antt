@@ -1,8 +1,6 @@
 -- Laws over plain variables that the proofs of this crate's functions cite.
 -- Assumes nothing.
-use Prim.Native.Nat.{ℕ, _+_, _-_, _≤_}
-use mathlib.Core.Path.{_≡_, refl, ap, _∙_}
-use mathlib.Core.List.{List}
+use Rattle.laws.proofs.Base.{ℕ, _+_, _-_, _≤_, _≡_, refl, ap, _∙_, List}
 use Rattle.laws.specs.Ranges.{fold}
 use Rattle.laws.proofs.Best.{fold-turn}
 use Rattle.curves.specs.Pairs.{Pair, figure}

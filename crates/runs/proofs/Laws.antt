@@ -1,14 +1,8 @@
 -- Laws over plain variables that the proofs of this crate's functions cite.
 -- Assumes nothing.
-use Prim.Native.Nat.{ℕ, zero, suc, _+_, _≤_, _<_}
-use mathlib.Core.Path.{_≡_, refl, sym, ap, _∙_, subst, subst⁻¹, subst₂}
-use mathlib.Core.Bool.{Bool, true, false, _&&_}
-use mathlib.Core.List.{List}
-use native.Mathlib.Nat.{le-refl}
-use native.Mathlib.Omega.{arith}
-use lib.Dec.{eqb}
-use lib.ListN.{length, getD, take}
-use lib.Seq.{length-take-le, ext-getD}
+use Rattle.laws.proofs.Base.{ℕ, zero, suc, _+_, _≤_, _<_, _≡_, refl, sym, ap, _∙_, subst, subst⁻¹, Bool, true, false, _&&_, List, le-refl}
+use Rattle.laws.proofs.Base.{arith, eqb, length, getD, take, length-take-le, ext-getD}
+use mathlib.Core.Path.{subst₂}
 use Rattle.laws.specs.Tests.{Tells}
 use Rattle.laws.proofs.Table.{Filled, later}
 use Rattle.laws.proofs.Tests.{tells-same, eqb-told, all-turn}

@@ -1,12 +1,6 @@
 -- What the loop over the rounds holds: how far they have come, which is never further than nine.
 -- Assumes nothing.
-use Prim.Native.Nat.{ℕ, _+_, _≤_}
-use mathlib.Core.Path.{_≡_, sym, ap, _∙_, subst}
-use mathlib.Core.Bool.{Bool, true, false}
-use native.Mathlib.Numerals.{add-one}
-use native.Mathlib.Omega.{arith}
-use borrow.Author.Count.{below-none, below-more}
-use lib.ListN.{length}
+use Rattle.laws.proofs.Base.{ℕ, _+_, _≤_, _≡_, sym, ap, _∙_, subst, Bool, true, false, add-one, arith, below-none, below-more, length}
 use Rattle.curves.specs.Pairs.{Pair, Same, horizon}
 use Rattle.curves.specs.Rounds.{cutOff, round, Crossed, Settled, after, Runs, Arrives, Crosses}
 use Rattle.curves.proofs.Figures.{given-self, round-horizon, round-full, full-same, same-refl}

@@ -1,9 +1,6 @@
 -- `bounds::ask` meets its promise: each number where its question is the first that is answered no.
 -- Assumes nothing.
-use mathlib.Core.Path.{refl}
-use mathlib.Core.Logic.{inl, inr}
-use native.Mathlib.Omega.{arith}
-use borrow.Author.Needs.{needs}
+use Rattle.laws.proofs.Base.{refl, inl, inr, arith, needs}
 use Rattle.laws.proofs.Tests.{told-yes, told-no}
 use Rattle.bounds.specs.Bounds.{Bounded}
 use Rattle.bounds.proofs.ask.Statement.{statement}

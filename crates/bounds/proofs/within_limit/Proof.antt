@@ -1,10 +1,6 @@
 -- `bounds::within_limit` meets its promise: before a turn it is known whether all figures before i are within the limit.
 -- Assumes nothing.
-use Prim.Native.Nat.{ℕ, _-_, _≤_, _<_}
-use native.Mathlib.Omega.{arith}
-use borrow.Author.Needs.{needs}
-use borrow.Author.Count.{below-none}
-use lib.ListN.{length, getD}
+use Rattle.laws.proofs.Base.{ℕ, _-_, _≤_, _<_, arith, needs, below-none, length, getD}
 use Rattle.laws.specs.Tests.{Tells}
 use Rattle.laws.proofs.Tests.{leb-told, all-turn}
 use Rattle.bounds.specs.Bounds.{figureLimit}

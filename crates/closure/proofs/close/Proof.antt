@@ -1,12 +1,7 @@
 -- `closure::close` meets its promise: each refusal where its question is the first that is answered no, and else what the rounds end with.
 -- Assumes nothing.
-use Prim.Native.Nat.{ℕ, _≤_}
-use mathlib.Core.List.{List}
-use mathlib.Core.Path.{_≡_, sym, _∙_}
-use native.Mathlib.Omega.{arith}
-use borrow.Author.Needs.{needs}
-use lib.ListN.{length, take}
-use lib.Seq.{length-take-le, length-front}
+use Rattle.laws.proofs.Base.{ℕ, _≤_, _≡_, sym, _∙_, List, arith, needs, length, take, length-take-le}
+use lib.Seq.{length-front}
 use Rattle.curves.specs.Pairs.{Pair, horizon, pairOf}
 use Rattle.closure.specs.Closing.{question3}
 use Rattle.closure.proofs.Answered.{no-1, no-2, no-3, ended-is}

@@ -1,7 +1,6 @@
 -- `closure::closing_for` meets its contract: in each arm the ending is known.
 -- Assumes nothing.
-use mathlib.Core.Path.{sym, ap}
-use borrow.Author.Needs.{needs}
+use Rattle.laws.proofs.Base.{sym, ap, needs}
 use Rattle.closure.specs.Steps.{closingFor}
 use Rattle.closure.proofs.closing_for.Statement.{statement}
 use Rattle.closure.proofs.closing_for.Tie as tie

@@ -1,12 +1,6 @@
 -- `constraints::is_header` meets its contract: before a turn the bytes before i are the header's.
 -- Assumes nothing.
-use Prim.Native.Nat.{ℕ, _-_, _≤_, _<_}
-use mathlib.Core.Path.{_≡_, ap}
-use native.Mathlib.Omega.{arith}
-use borrow.Author.Needs.{needs}
-use borrow.Author.Count.{below-none, below-more}
-use lib.ListN.{length, getD}
-use lib.Seq.{ext-getD}
+use Rattle.laws.proofs.Base.{ℕ, _-_, _≤_, _<_, _≡_, ap, arith, needs, below-none, below-more, length, getD, ext-getD}
 use Rattle.constraints.proofs.is_header.Statement.{statement}
 use Rattle.constraints.proofs.is_header.Tie as tie
 

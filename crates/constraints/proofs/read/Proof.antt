@@ -1,8 +1,6 @@
 -- `constraints::read` meets its promise: each refusal where its question is the first that is answered no, and else the text's pair.
 -- Assumes nothing.
-use mathlib.Core.Path.{_≡_, sym, _∙_}
-use native.Mathlib.Omega.{arith}
-use borrow.Author.Needs.{needs}
+use Rattle.laws.proofs.Base.{_≡_, sym, _∙_, arith, needs}
 use Rattle.laws.proofs.Tests.{told-yes, told-no}
 use Rattle.csv.specs.Text.{Bytes, header}
 use Rattle.constraints.specs.Reading.{later, question6}

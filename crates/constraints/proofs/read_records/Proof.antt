@@ -1,10 +1,6 @@
 -- `constraints::read_records` meets its contract: before a turn the records that end before `at` are sound and in the table.
 -- Assumes nothing.
-use Prim.Native.Nat.{_-_}
-use mathlib.Core.Path.{_≡_, sym, ap, _∙_}
-use native.Mathlib.Omega.{arith}
-use borrow.Author.Needs.{needs}
-use lib.ListN.{length, drop}
+use Rattle.laws.proofs.Base.{_-_, _≡_, sym, ap, _∙_, arith, needs, length, drop}
 use Rattle.curves.specs.Questions.{result}
 use Rattle.csv.specs.Text.{Bytes, records}
 use Rattle.csv.specs.Records.{triple}

@@ -1,8 +1,6 @@
 -- `exports::calgedze_generate` meets its promise: where the generator opens, its ticks are those of the script.
 -- Assumes nothing.
-use mathlib.Core.Path.{refl}
-use mathlib.Core.List.{map}
-use borrow.Author.Needs.{needs}
+use Rattle.laws.proofs.Base.{refl, map, needs}
 use Rattle.curves.specs.Pairs.{pairOf}
 use Rattle.generator.specs.Runs.{sendings}
 use Rattle.exports.specs.Codes.{sendingCode}

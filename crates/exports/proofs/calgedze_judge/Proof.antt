@@ -1,9 +1,6 @@
 -- `exports::calgedze_judge` meets its promise: where the monitor opens, its ticks are those of the script.
 -- Assumes nothing.
-use mathlib.Core.Path.{refl, ap, _∙_}
-use mathlib.Core.Bool.{false}
-use mathlib.Core.List.{map}
-use borrow.Author.Needs.{needs}
+use Rattle.laws.proofs.Base.{refl, ap, _∙_, false, map, needs}
 use Rattle.curves.specs.Pairs.{pairOf}
 use Rattle.monitor.specs.Monitoring.{monitorView}
 use Rattle.monitor.specs.Runs.{rulings}

@@ -1,11 +1,6 @@
 -- `exports::copy` meets its contract: before a turn the first i bytes are copied.
 -- Assumes nothing.
-use Prim.Native.Nat.{_-_, _≤_}
-use mathlib.Core.Path.{_≡_, refl}
-use mathlib.Core.List.{_++_}
-use native.Mathlib.Omega.{arith}
-use borrow.Author.Needs.{needs}
-use lib.ListN.{length, take, drop}
+use Rattle.laws.proofs.Base.{_-_, _≤_, _≡_, refl, _++_, arith, needs, length, take, drop}
 use Rattle.exports.proofs.Copied.{copied-more, copied-room, copied-all}
 use Rattle.exports.proofs.copy.Statement.{statement}
 use Rattle.exports.proofs.copy.Tie as tie

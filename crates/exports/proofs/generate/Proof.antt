@@ -1,11 +1,6 @@
 -- `exports::generate` meets its contract: before a turn the choices before i have led to counts, and the generator is where these left it.
 -- Assumes nothing.
-use Prim.Native.Nat.{ℕ, _-_, _≤_}
-use mathlib.Core.Path.{_≡_, refl, ap, _∙_}
-use mathlib.Core.List.{List, map}
-use native.Mathlib.Omega.{arith}
-use borrow.Author.Needs.{needs}
-use lib.ListN.{length}
+use Rattle.laws.proofs.Base.{ℕ, _-_, _≤_, _≡_, refl, ap, _∙_, List, map, arith, needs, length}
 use Rattle.history.specs.States.{View, viewOf}
 use Rattle.generator.specs.Generating.{sending}
 use Rattle.generator.specs.Runs.{viewAfter, sendings}

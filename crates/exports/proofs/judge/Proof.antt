@@ -1,11 +1,6 @@
 -- `exports::judge` meets its contract: before a turn the counts before i have their verdicts, and the monitor is where these left it.
 -- Assumes nothing.
-use Prim.Native.Nat.{ℕ, _-_, _≤_}
-use mathlib.Core.Path.{_≡_, refl, ap, _∙_}
-use mathlib.Core.List.{List, map}
-use native.Mathlib.Omega.{arith}
-use borrow.Author.Needs.{needs}
-use lib.ListN.{length}
+use Rattle.laws.proofs.Base.{ℕ, _-_, _≤_, _≡_, refl, ap, _∙_, List, map, arith, needs, length}
 use Rattle.monitor.specs.Monitoring.{MonitorView, monitorViewOf, judging}
 use Rattle.monitor.specs.Runs.{afterTick, rulings}
 use Rattle.monitor.proofs.Said.{monitor-next}

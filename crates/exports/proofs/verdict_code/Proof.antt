@@ -1,9 +1,6 @@
 -- `exports::verdict_code` meets its contract: a window that is named leaves room for the kind of verdict beside it.
 -- Assumes nothing.
-use Prim.Native.Nat.{ℕ, _≤_}
-use mathlib.Core.Path.{sym, ap, subst}
-use native.Mathlib.Omega.{arith}
-use borrow.Author.Needs.{needs}
+use Rattle.laws.proofs.Base.{ℕ, _≤_, sym, ap, subst, arith, needs}
 use Rattle.bounds.specs.Bounds.{maxHorizon}
 use Rattle.monitor.specs.declared.Verdict.{Verdict}
 use Rattle.monitor.specs.Answers.{verdictReply}

@@ -1,7 +1,6 @@
 -- `generator::advance` meets its contract: a count that is sent is added, and a refusal leaves the state.
 -- Assumes nothing.
-use mathlib.Core.Path.{refl, subst, subst⁻¹}
-use borrow.Author.Needs.{needs}
+use Rattle.laws.proofs.Base.{refl, subst, subst⁻¹, needs}
 use Rattle.history.specs.States.{viewOf, Legal}
 use Rattle.history.proofs.Slicing.{legal-room}
 use Rattle.generator.specs.declared.Generator.{Generator}

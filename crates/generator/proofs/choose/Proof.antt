@@ -1,9 +1,6 @@
 -- `generator::choose` meets its contract: the count of a range is the one that the definition leads to, and it fits.
 -- Assumes nothing.
-use Prim.Native.Nat.{ℕ}
-use mathlib.Core.Path.{_≡_, ap, subst, subst⁻¹}
-use native.Mathlib.Omega.{arith}
-use borrow.Author.Needs.{needs}
+use Rattle.laws.proofs.Base.{ℕ, _≡_, ap, subst, subst⁻¹, arith, needs}
 use Rattle.curves.specs.Questions.{Reply, result}
 use Rattle.generator.specs.declared.Admissible.{Admissible}
 use Rattle.generator.specs.declared.Admissible.the-variants.{Range}

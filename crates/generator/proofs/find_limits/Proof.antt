@@ -1,7 +1,6 @@
 -- `generator::find_limits` meets its contract: the slices that are handed on are what the state's view has.
 -- Assumes nothing.
-use mathlib.Core.Path.{subst⁻¹}
-use borrow.Author.Needs.{needs}
+use Rattle.laws.proofs.Base.{subst⁻¹, needs}
 use Rattle.history.specs.States.{View}
 use Rattle.history.proofs.Slicing.{Arrays, upper-room, lower-room, ticks-room, upper-length, lower-length, ticks-length}
 use Rattle.history.proofs.Slicing.{slices, view-sliced}

@@ -1,9 +1,6 @@
 -- `generator::limit` meets its contract: before a turn lo and end stand for the windows of up to d + 1 ticks.
 -- Assumes nothing.
-use Prim.Native.Nat.{_+_, _*_, _-_, _≤_}
-use native.Mathlib.Omega.{arith}
-use borrow.Author.Needs.{needs}
-use lib.ListN.{length, getD}
+use Rattle.laws.proofs.Base.{_+_, _-_, _*_, _≤_, arith, needs, length, getD}
 use Rattle.curves.specs.Streams.{countLimit}
 use Rattle.generator.proofs.Ranging.{Narrowed, narrowed-once, narrowed-more, narrowed-whole}
 use Rattle.generator.proofs.limit.Statement.{statement}

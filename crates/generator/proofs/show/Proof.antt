@@ -1,8 +1,6 @@
 -- `generator::show` meets its contract: where there is a count, both ends are within the limit of figures.
 -- Assumes nothing.
-use Prim.Native.Nat.{suc, _≤_}
-use native.Mathlib.Omega.{arith}
-use borrow.Author.Needs.{needs}
+use Rattle.laws.proofs.Base.{suc, _≤_, arith, needs}
 use Rattle.bounds.specs.Bounds.{figureLimit}
 use Rattle.generator.proofs.show.Statement.{statement}
 use Rattle.generator.proofs.show.Tie as tie

@@ -1,9 +1,6 @@
 -- `history::add` meets its contract: the tick is stored behind the held ones, and the oldest goes where they are then too many.
 -- Assumes nothing.
-use mathlib.Core.Path.{_≡_}
-use native.Mathlib.Omega.{arith}
-use borrow.Author.Needs.{needs}
-use lib.ListN.{length}
+use Rattle.laws.proofs.Base.{_≡_, arith, needs, length}
 use Rattle.history.proofs.Histories.{room-held, added-last, added-full}
 use Rattle.history.proofs.add.Statement.{statement}
 use Rattle.history.proofs.add.Tie as tie

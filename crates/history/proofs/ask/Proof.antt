@@ -1,7 +1,6 @@
 -- `history::ask` meets its contract: the answer is that of what was found.
 -- Assumes nothing.
-use mathlib.Core.Path.{ap, _∙_}
-use borrow.Author.Needs.{needs}
+use Rattle.laws.proofs.Base.{ap, _∙_, needs}
 use Rattle.history.specs.Answers.{openingReply}
 use Rattle.history.proofs.Histories.{answers}
 use Rattle.history.proofs.ask.Statement.{statement}

@@ -1,10 +1,6 @@
 -- `history::padded` meets its contract: before a turn the figures before i are copied, and the rest of the array is 0.
 -- Assumes nothing.
-use Prim.Native.Nat.{_-_, _≤_}
-use mathlib.Core.Path.{_≡_}
-use native.Mathlib.Omega.{arith}
-use borrow.Author.Needs.{needs}
-use lib.ListN.{length}
+use Rattle.laws.proofs.Base.{_-_, _≤_, _≡_, arith, needs, length}
 use Rattle.laws.proofs.Table.{Filled, unfilled, stored}
 use Rattle.curves.specs.Pairs.{figure}
 use Rattle.curves.proofs.Figures.{figure-next}

@@ -1,10 +1,6 @@
 -- `history::shifted` meets its contract: before a turn the entries before i are those of one place further on.
 -- Assumes nothing.
-use Prim.Native.Nat.{_-_, _≤_}
-use mathlib.Core.Path.{_≡_}
-use native.Mathlib.Omega.{arith}
-use borrow.Author.Needs.{needs}
-use lib.ListN.{length, getD}
+use Rattle.laws.proofs.Base.{_-_, _≤_, _≡_, arith, needs, length, getD}
 use Rattle.laws.proofs.Table.{Filled, unfilled, filled-front}
 use Rattle.history.proofs.Histories.{moved-turn}
 use Rattle.history.proofs.shifted.Statement.{statement}

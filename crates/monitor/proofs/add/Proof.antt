@@ -1,7 +1,6 @@
 -- `monitor::add` meets its contract: a legal history has room for the tick.
 -- Assumes nothing.
-use mathlib.Core.Path.{refl}
-use borrow.Author.Needs.{needs}
+use Rattle.laws.proofs.Base.{refl, needs}
 use Rattle.history.proofs.Slicing.{legal-room}
 use Rattle.monitor.proofs.add.Statement.{statement}
 use Rattle.monitor.proofs.add.Tie as tie

@@ -1,7 +1,6 @@
 -- `monitor::advance` meets its contract: in each arm the verdict is known.
 -- Assumes nothing.
-use mathlib.Core.Path.{refl, subst, subst⁻¹}
-use borrow.Author.Needs.{needs}
+use Rattle.laws.proofs.Base.{refl, subst, subst⁻¹, needs}
 use Rattle.history.specs.States.{viewOf}
 use Rattle.monitor.specs.declared.Monitor.{Monitor}
 use Rattle.monitor.specs.declared.Verdict.{Verdict}

@@ -1,7 +1,6 @@
 -- `monitor::find_verdict` meets its contract: question 12, the failed mark and then the windows settle the answer.
 -- Assumes nothing.
-use mathlib.Core.Path.{sym, _∙_}
-use borrow.Author.Needs.{needs}
+use Rattle.laws.proofs.Base.{sym, _∙_, needs}
 use Rattle.laws.proofs.Tests.{told-yes, told-no}
 use Rattle.history.specs.States.{viewOf, Legal}
 use Rattle.monitor.specs.Monitoring.{monitorView}

@@ -1,9 +1,6 @@
 -- `monitor::judge` meets its contract: before a turn the windows of up to d ticks keep their figures.
 -- Assumes nothing.
-use Prim.Native.Nat.{_+_, _*_, _-_, _≤_}
-use native.Mathlib.Omega.{arith}
-use borrow.Author.Needs.{needs}
-use lib.ListN.{length, getD}
+use Rattle.laws.proofs.Base.{_+_, _-_, _*_, _≤_, arith, needs, length, getD}
 use Rattle.curves.specs.Streams.{countLimit}
 use Rattle.monitor.proofs.Judging.{Reached, reached-none, reached-more, found-many, found-few, found-none}
 use Rattle.monitor.proofs.judge.Statement.{statement}

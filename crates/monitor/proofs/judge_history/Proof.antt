@@ -1,7 +1,6 @@
 -- `monitor::judge_history` meets its contract: the slices that are handed on are the view of the history.
 -- Assumes nothing.
-use mathlib.Core.Path.{sym, ap, _∙_}
-use borrow.Author.Needs.{needs}
+use Rattle.laws.proofs.Base.{sym, ap, _∙_, needs}
 use Rattle.curves.specs.Questions.{result}
 use Rattle.history.specs.States.{View}
 use Rattle.history.proofs.Slicing.{Arrays, upper-room, lower-room, ticks-room, upper-length, lower-length, ticks-length}

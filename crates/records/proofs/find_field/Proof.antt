@@ -1,11 +1,6 @@
 -- `records::find_field` meets its contract: before a turn no comma stands among the bytes passed.
 -- Assumes nothing.
-use Prim.Native.Nat.{_-_, _≤_}
-use mathlib.Core.Path.{_≡_, refl, sym, _∙_}
-use mathlib.Core.List.{_++_}
-use native.Mathlib.Omega.{arith}
-use borrow.Author.Needs.{needs}
-use lib.ListN.{length, take, drop}
+use Rattle.laws.proofs.Base.{_-_, _≤_, _≡_, refl, sym, _∙_, _++_, arith, needs, length, take, drop}
 use Rattle.csv.specs.Text.{Bytes}
 use Rattle.csv.proofs.Splitting.{splits-fields, passed-more, passed-found, passed-all}
 use Rattle.records.specs.Steps.{firstField}

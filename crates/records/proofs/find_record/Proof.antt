@@ -1,11 +1,6 @@
 -- `records::find_record` meets its contract: before a turn no CR LF stands at the bytes passed.
 -- Assumes nothing.
-use Prim.Native.Nat.{_-_, _≤_}
-use mathlib.Core.Path.{_≡_, refl}
-use mathlib.Core.List.{_++_}
-use native.Mathlib.Omega.{arith}
-use borrow.Author.Needs.{needs}
-use lib.ListN.{length, take, drop}
+use Rattle.laws.proofs.Base.{_-_, _≤_, _≡_, refl, _++_, arith, needs, length, take, drop}
 use Rattle.laws.proofs.Tests.{either-true, either-false}
 use Rattle.csv.specs.Text.{Bytes}
 use Rattle.csv.proofs.Splitting.{splits-records, passed-more, passed-found, passed-all}

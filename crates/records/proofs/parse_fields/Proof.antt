@@ -1,7 +1,6 @@
 -- `records::parse_fields` meets its contract: one field after the other is a number or is none.
 -- Assumes nothing.
-use mathlib.Core.Path.{subst}
-use borrow.Author.Needs.{needs}
+use Rattle.laws.proofs.Base.{subst, needs}
 use Rattle.records.specs.Steps.{Numbered}
 use Rattle.records.proofs.Fields.{figured}
 use Rattle.records.proofs.parse_fields.Statement.{statement}

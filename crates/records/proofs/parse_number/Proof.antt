@@ -1,9 +1,6 @@
 -- `records::parse_number` meets its contract: before a turn the bytes before i are digits, and spell the value.
 -- Assumes nothing.
-use Prim.Native.Nat.{_-_}
-use mathlib.Core.Logic.{inr}
-use native.Mathlib.Omega.{arith}
-use borrow.Author.Needs.{needs}
+use Rattle.laws.proofs.Base.{_-_, inr, arith, needs}
 use Rattle.records.proofs.Spelling.{Spelling, spelling-none, spelling-more, spelling-fits, spelling-ends, spelling-done}
 use Rattle.records.proofs.Fields.{zero-alone, leading-zero, no-numeral}
 use Rattle.records.proofs.parse_number.Statement.{statement}

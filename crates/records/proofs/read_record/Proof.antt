@@ -1,7 +1,6 @@
 -- `records::read_record` meets its promise: there are three fields where the third ends with the record, and not before.
 -- Assumes nothing.
-use native.Mathlib.Omega.{arith}
-use borrow.Author.Needs.{needs}
+use Rattle.laws.proofs.Base.{arith, needs}
 use Rattle.records.proofs.Fields.{field-fits, fields-one, fields-more, one-field, two-fields, more-fields, three-fields}
 use Rattle.records.proofs.read_record.Statement.{statement}
 use Rattle.records.proofs.read_record.Tie as tie

@@ -1,7 +1,6 @@
 -- `rendering::render` meets its promise: each refusal where its question is the first that is answered no, and else the text.
 -- Assumes nothing.
-use mathlib.Core.Path.{sym, _∙_, subst}
-use borrow.Author.Needs.{needs}
+use Rattle.laws.proofs.Base.{sym, _∙_, subst, needs}
 use Rattle.bounds.specs.Answers.{Found}
 use Rattle.rendering.proofs.Said.{written-is}
 use Rattle.rendering.proofs.Answered.{refused-as}

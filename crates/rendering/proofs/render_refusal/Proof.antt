@@ -1,10 +1,6 @@
 -- `rendering::render_refusal` meets its promise: the line is written into an array of zeros.
 -- Assumes nothing.
-use Prim.Native.Nat.{ℕ, _≤_}
-use mathlib.Core.Path.{ap}
-use native.Mathlib.Omega.{arith}
-use borrow.Author.Needs.{needs}
-use lib.ListN.{length, length-replicate}
+use Rattle.laws.proofs.Base.{ℕ, _≤_, ap, arith, needs, length, length-replicate}
 use Rattle.rendering.specs.Rendering.{longest}
 use Rattle.rendering.proofs.Said.{number-fits, refusal-fits}
 use Rattle.rendering.proofs.Answered.{written-as}

@@ -1,10 +1,6 @@
 -- `rendering::write_pair` meets its contract: before a turn the text of n windows is written.
 -- Assumes nothing.
-use Prim.Native.Nat.{_-_, _≤_}
-use mathlib.Core.Path.{_≡_}
-use native.Mathlib.Omega.{arith}
-use borrow.Author.Needs.{needs}
-use lib.ListN.{length}
+use Rattle.laws.proofs.Base.{_-_, _≤_, _≡_, arith, needs, length}
 use Rattle.laws.specs.Ranges.{fold}
 use Rattle.curves.specs.Pairs.{Pair, pairOf}
 use Rattle.csv.specs.Text.{Bytes}

@@ -1,7 +1,6 @@
 -- `report::report` meets its promise: what follows from what reading answers into blank lists.
 -- Assumes nothing.
-use mathlib.Core.Path.{ap}
-use borrow.Author.Needs.{needs}
+use Rattle.laws.proofs.Base.{ap, needs}
 use Rattle.constraints.specs.Reading.{reading}
 use Rattle.report.specs.Report.{afterReading, output, reported}
 use Rattle.report.proofs.Answered.{into-blank, read-within}

@@ -1,8 +1,6 @@
 -- `report::report_closing` meets its contract: the closure that was given, or the line of the refusal.
 -- Assumes nothing.
-use mathlib.Core.Path.{sym}
-use borrow.Author.Needs.{needs}
-use lib.Seq.{length-take-le}
+use Rattle.laws.proofs.Base.{sym, needs, length-take-le}
 use Rattle.report.proofs.Answered.{line-told, next-told}
 use Rattle.report.proofs.report_closing.Statement.{statement}
 use Rattle.report.proofs.report_closing.Tie as tie

@@ -1,8 +1,6 @@
 -- `report::report_closure` meets its contract: the text that was rendered, or the line of the refusal.
 -- Assumes nothing.
-use mathlib.Core.Path.{ap, _∙_}
-use native.Mathlib.Omega.{arith}
-use borrow.Author.Needs.{needs}
+use Rattle.laws.proofs.Base.{ap, _∙_, arith, needs}
 use Rattle.report.proofs.Answered.{line-told, pair-shown}
 use Rattle.report.proofs.report_closure.Statement.{statement}
 use Rattle.report.proofs.report_closure.Tie as tie

@@ -1,7 +1,6 @@
 -- `report::report_pair` meets its contract: what follows from what closing answers into blank lists.
 -- Assumes nothing.
-use borrow.Author.Needs.{needs}
-use lib.ListN.{length}
+use Rattle.laws.proofs.Base.{needs, length}
 use Rattle.curves.specs.Pairs.{pairOf}
 use Rattle.closure.specs.Closing.{closing}
 use Rattle.report.specs.Report.{afterClosing, reported}

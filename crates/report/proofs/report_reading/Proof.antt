@@ -1,11 +1,6 @@
 -- `report::report_reading` meets its contract: the pair that was read, closed; or the line of the refusal.
 -- Assumes nothing.
-use Prim.Native.Nat.{_≤_}
-use mathlib.Core.Path.{sym}
-use native.Mathlib.Omega.{arith}
-use borrow.Author.Needs.{needs}
-use lib.ListN.{length}
-use lib.Seq.{length-take-le}
+use Rattle.laws.proofs.Base.{_≤_, sym, arith, needs, length, length-take-le}
 use Rattle.report.proofs.Answered.{line-told, next-told, pair-told}
 use Rattle.report.proofs.report_reading.Statement.{statement}
 use Rattle.report.proofs.report_reading.Tie as tie

@@ -1,8 +1,6 @@
 -- `rounds::difference_at` meets its contract: a difference that would be negative is 0, as one of natural numbers is.
 -- Assumes nothing.
-use Prim.Native.Nat.{_+_}
-use native.Mathlib.Omega.{arith}
-use borrow.Author.Needs.{needs}
+use Rattle.laws.proofs.Base.{_+_, arith, needs}
 use Rattle.curves.proofs.Figures.{figure-entry}
 use Rattle.rounds.proofs.difference_at.Statement.{statement}
 use Rattle.rounds.proofs.difference_at.Tie as tie

@@ -1,10 +1,6 @@
 -- `rounds::new_figures` meets its contract: before a turn the best of the parts and of the windows longer by less than t is held.
 -- Assumes nothing.
-use Prim.Native.Nat.{_+_, _-_, _≤_, min, max}
-use mathlib.Core.Path.{_≡_, refl, ap, _∙_}
-use native.Mathlib.Omega.{arith}
-use borrow.Author.Needs.{needs}
-use lib.ListN.{length}
+use Rattle.laws.proofs.Base.{_+_, _-_, _≤_, min, max, _≡_, refl, ap, _∙_, arith, needs, length}
 use Rattle.laws.specs.Ranges.{fold}
 use Rattle.rounds.specs.Steps.{differences}
 use Rattle.rounds.proofs.Laws.{best-turn, new-figure}

@@ -1,9 +1,6 @@
 -- `rounds::round` meets its promise: nothing is stored where the lists are not ready; else before a turn the new figures before i are.
 -- Assumes nothing.
-use Prim.Native.Nat.{_-_, _≤_}
-use native.Mathlib.Omega.{arith}
-use borrow.Author.Needs.{needs}
-use lib.ListN.{length}
+use Rattle.laws.proofs.Base.{_-_, _≤_, arith, needs, length}
 use Rattle.laws.proofs.Table.{Filled, unfilled, stored, filled}
 use Rattle.laws.proofs.Tests.{told-yes, told-no}
 use Rattle.curves.specs.Pairs.{Pair, pairOf}

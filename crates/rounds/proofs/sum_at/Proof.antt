@@ -1,8 +1,6 @@
 -- `rounds::sum_at` meets its contract: two figures of at most 16,776,960 have a sum that fits.
 -- Assumes nothing.
-use Prim.Native.Nat.{_-_}
-use native.Mathlib.Omega.{arith}
-use borrow.Author.Needs.{needs}
+use Rattle.laws.proofs.Base.{_-_, arith, needs}
 use Rattle.curves.proofs.Figures.{figure-entry}
 use Rattle.rounds.proofs.sum_at.Statement.{statement}
 use Rattle.rounds.proofs.sum_at.Tie as tie

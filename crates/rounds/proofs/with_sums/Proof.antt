@@ -1,9 +1,6 @@
 -- `rounds::with_sums` meets its contract: before a turn the best of the cuts before a is held.
 -- Assumes nothing.
-use Prim.Native.Nat.{_-_, _≤_, min, max}
-use mathlib.Core.Path.{_≡_, ap, _∙_}
-use native.Mathlib.Omega.{arith}
-use borrow.Author.Needs.{needs}
+use Rattle.laws.proofs.Base.{_-_, _≤_, min, max, _≡_, ap, _∙_, arith, needs}
 use Rattle.laws.specs.Ranges.{fold}
 use Rattle.curves.proofs.Figures.{figure-entry}
 use Rattle.rounds.specs.Steps.{sums}

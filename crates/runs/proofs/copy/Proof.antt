@@ -1,11 +1,6 @@
 -- `runs::copy` meets its contract: before a turn the figures before i are copied, and it is known whether they stood there.
 -- Assumes nothing.
-use Prim.Native.Nat.{_-_, _≤_}
-use mathlib.Core.Path.{_∙_}
-use native.Mathlib.Omega.{arith}
-use borrow.Author.Needs.{needs}
-use borrow.Author.Count.{below-none}
-use lib.ListN.{length}
+use Rattle.laws.proofs.Base.{_-_, _≤_, _∙_, arith, needs, below-none, length}
 use Rattle.curves.specs.Pairs.{figure}
 use Rattle.laws.specs.Tests.{Tells}
 use Rattle.laws.proofs.Table.{Filled, unfilled, stored, filled}

@@ -1,10 +1,6 @@
 -- `runs::crossed` meets its contract: before a turn no least before i is above its ceiling.
 -- Assumes nothing.
-use Prim.Native.Nat.{ℕ, _-_, _≤_, _<_}
-use native.Mathlib.Omega.{arith}
-use borrow.Author.Needs.{needs}
-use borrow.Author.Count.{below-none, below-more}
-use lib.ListN.{length, getD}
+use Rattle.laws.proofs.Base.{ℕ, _-_, _≤_, _<_, arith, needs, below-none, below-more, length, getD}
 use Rattle.runs.proofs.Laws.{crossed-at, uncrossed}
 use Rattle.runs.proofs.crossed.Statement.{statement}
 use Rattle.runs.proofs.crossed.Tie as tie

@@ -1,7 +1,6 @@
 -- `runs::deliver` meets its contract: in each arm the stop is known, and with it which pair the result lists hold.
 -- Assumes nothing.
-use mathlib.Core.Path.{refl}
-use borrow.Author.Needs.{needs}
+use Rattle.laws.proofs.Base.{refl, needs}
 use Rattle.runs.proofs.Laws.{delivered, undelivered, same-pairs}
 use Rattle.runs.proofs.deliver.Statement.{statement}
 use Rattle.runs.proofs.deliver.Tie as tie

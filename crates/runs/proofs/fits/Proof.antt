@@ -1,7 +1,6 @@
 -- `runs::fits` meets its contract: the leasts are asked last, and with all else they settle it.
 -- Assumes nothing.
-use native.Mathlib.Omega.{arith}
-use borrow.Author.Needs.{needs}
+use Rattle.laws.proofs.Base.{arith, needs}
 use Rattle.laws.proofs.Tests.{either-true, either-false, tells-same}
 use Rattle.bounds.specs.Bounds.{Bounded}
 use Rattle.runs.proofs.fits.Statement.{statement}

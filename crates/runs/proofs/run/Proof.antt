@@ -1,7 +1,6 @@
 -- `runs::run` meets its promise: rounds are run exactly where the lists fit.
 -- Assumes nothing.
-use mathlib.Core.Path.{refl}
-use borrow.Author.Needs.{needs}
+use Rattle.laws.proofs.Base.{refl, needs}
 use Rattle.laws.proofs.Tests.{either-true, either-false}
 use Rattle.runs.proofs.run.Statement.{statement}
 use Rattle.runs.proofs.run.Tie as tie

@@ -1,10 +1,6 @@
 -- `runs::run_fit` meets its contract: the four parts to compute in are as long as the pair's lists.
 -- Assumes nothing.
-use mathlib.Core.Path.{_≡_, sym}
-use Prim.Native.Nat.{ℕ}
-use mathlib.Core.List.{List}
-use borrow.Author.Needs.{needs}
-use lib.ListN.{length, take}
+use Rattle.laws.proofs.Base.{ℕ, _≡_, sym, List, needs, length, take}
 use Rattle.runs.proofs.Laws.{part-long}
 use Rattle.runs.proofs.run_fit.Statement.{statement}
 use Rattle.runs.proofs.run_fit.Tie as tie

@@ -1,9 +1,6 @@
 -- `runs::run_with` meets its contract: the rounds are those of the pair that was copied, and what they stop with is delivered.
 -- Assumes nothing.
-use mathlib.Core.Path.{ap}
-use native.Mathlib.Omega.{arith}
-use borrow.Author.Needs.{needs}
-use lib.ListN.{length}
+use Rattle.laws.proofs.Base.{ap, arith, needs, length}
 use Rattle.runs.proofs.Laws.{ready, ended, same-pairs}
 use Rattle.runs.proofs.run_with.Statement.{statement}
 use Rattle.runs.proofs.run_with.Tie as tie

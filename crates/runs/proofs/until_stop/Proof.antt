@@ -1,10 +1,6 @@
 -- `runs::until_stop` meets its contract: before a turn the rounds have come to the pair that is held, and are nine at most.
 -- Assumes nothing.
-use Prim.Native.Nat.{_-_, _≤_}
-use mathlib.Core.Path.{_≡_, refl}
-use native.Mathlib.Omega.{arith}
-use borrow.Author.Needs.{needs}
-use lib.ListN.{length}
+use Rattle.laws.proofs.Base.{_-_, _≤_, _≡_, refl, arith, needs, length}
 use Rattle.curves.specs.Rounds.{cutOff, Crossed}
 use Rattle.curves.specs.Pairs.{pairOf}
 use Rattle.laws.proofs.Tests.{either-true, either-false}

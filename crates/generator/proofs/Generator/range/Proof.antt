@@ -1,7 +1,6 @@
 -- `generator::Generator::range` meets its promise: question 12 and then the limits of the next count settle what is shown.
 -- Assumes nothing.
-use mathlib.Core.Path.{sym}
-use borrow.Author.Needs.{needs}
+use Rattle.laws.proofs.Base.{sym, needs}
 use Rattle.laws.proofs.Tests.{told-yes, told-no}
 use Rattle.history.specs.States.{viewOf, Legal}
 use Rattle.generator.proofs.Said.{looking-bad}

@@ -1,7 +1,6 @@
 -- `generator::Generator::tick` meets its promise: what is sent and the next state follow from what a look shows.
 -- Assumes nothing.
-use mathlib.Core.Path.{_≡_, ap, _∙_, subst}
-use borrow.Author.Needs.{needs}
+use Rattle.laws.proofs.Base.{_≡_, ap, _∙_, subst, needs}
 use Rattle.history.specs.States.{viewOf}
 use Rattle.generator.specs.Generating.{sentFrom, sending, GeneratorNext}
 use Rattle.generator.specs.Answers.{sendingReply}

@@ -1,11 +1,6 @@
 -- `history::History::is_legal` meets its promise: each way out answers question 12 by the sizes or by the figures.
 -- Assumes nothing.
-use Prim.Native.Nat.{_≤_}
-use mathlib.Core.Path.{_≡_, sym}
-use native.Mathlib.Omega.{arith}
-use borrow.Author.Needs.{needs}
-use lib.ListN.{length}
-use lib.Seq.{length-take-le}
+use Rattle.laws.proofs.Base.{_≤_, _≡_, sym, arith, needs, length, length-take-le}
 use Rattle.laws.proofs.Tests.{either-true, either-false, tells-same}
 use Rattle.bounds.specs.Bounds.{maxHorizon, Bounded}
 use Rattle.history.specs.Promises.{Room}

@@ -1,7 +1,6 @@
 -- `history::History::push` meets its promise: it adds the tick exactly where there is room.
 -- Assumes nothing.
-use mathlib.Core.Path.{refl}
-use native.Mathlib.Omega.{arith}
+use Rattle.laws.proofs.Base.{refl, arith}
 use Rattle.history.proofs.History.push.Statement.{statement}
 use Rattle.history.proofs.History.push.Tie as tie
 

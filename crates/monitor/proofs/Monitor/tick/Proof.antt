@@ -1,7 +1,6 @@
 -- `monitor::Monitor::tick` meets its promise: the verdict is the one that is found, and the next state follows from it.
 -- Assumes nothing.
-use mathlib.Core.Path.{subst}
-use borrow.Author.Needs.{needs}
+use Rattle.laws.proofs.Base.{subst, needs}
 use Rattle.monitor.specs.Monitoring.{monitorViewOf, MonitorNext}
 use Rattle.monitor.proofs.Judging.{adds-where}
 use Rattle.monitor.proofs.Monitor.tick.Statement.{statement}

@@ -1,8 +1,6 @@
 -- `rendering::write::number`, which calls itself, meets its contract: n falls, and its digits are those of its tenth and one more.
 -- Assumes nothing.
-use Prim.Native.Nat.{ℕ, _<_}
-use native.Mathlib.Omega.{arith}
-use borrow.Author.Needs.{needs}
+use Rattle.laws.proofs.Base.{ℕ, _<_, arith, needs}
 use borrow.Fn.Kinds.{In}
 use borrow.Fn.PlainCycle.{Measures, is, falls, and}
 use Rattle.csv.proofs.Numbers.{decimal-some, decimal-small, decimal-step}

@@ -1,10 +1,6 @@
 -- `rendering::write::bytes` meets its contract: before a turn the bytes before i are put in.
 -- Assumes nothing.
-use Prim.Native.Nat.{_+_, _-_, _≤_}
-use mathlib.Core.Path.{_≡_}
-use native.Mathlib.Omega.{arith}
-use borrow.Author.Needs.{needs}
-use lib.ListN.{length, take}
+use Rattle.laws.proofs.Base.{_+_, _-_, _≤_, _≡_, arith, needs, length, take}
 use Rattle.laws.specs.Writing.{Wrote}
 use Rattle.laws.proofs.Writing.{wrote-length, wrote-none, wrote-entry, wrote-whole}
 use Rattle.rendering.proofs.write.bytes.Statement.{statement}

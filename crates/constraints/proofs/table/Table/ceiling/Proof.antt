@@ -1,7 +1,6 @@
 -- `constraints::table::Table::ceiling` meets its contract: the product fits, as both factors are bounded.
 -- Assumes nothing.
-use native.Mathlib.Omega.{arith}
-use borrow.Author.Needs.{needs}
+use Rattle.laws.proofs.Base.{arith, needs}
 use Rattle.constraints.proofs.Tables.{ceiling-named, ceiling-other, product-bound}
 use Rattle.constraints.proofs.table.Table.ceiling.Statement.{statement}
 use Rattle.constraints.proofs.table.Table.ceiling.Tie as tie

@@ -1,8 +1,6 @@
 -- `constraints::table::Table::fill` meets its contract: before a turn the entries before i are filled.
 -- Assumes nothing.
-use Prim.Native.Nat.{_-_, _≤_}
-use native.Mathlib.Omega.{arith}
-use borrow.Author.Needs.{needs}
+use Rattle.laws.proofs.Base.{_-_, _≤_, arith, needs}
 use Rattle.laws.proofs.Table.{Filled, unfilled, stored, filled-front}
 use Rattle.constraints.specs.Steps.{ceilingIn, leastIn}
 use Rattle.constraints.proofs.Tables.{least-next}
