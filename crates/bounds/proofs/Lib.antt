@@ -1,2 +1,2 @@
--- The laws that the function's proof cites. Assumes nothing.
+-- The laws that the functions' proofs cite. Assumes nothing.
 mod Laws

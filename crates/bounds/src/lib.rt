@@ -2,6 +2,7 @@
 
 ghost use Rattle.laws.specs.Tests.{Tells};
 ghost use Rattle.curves.specs.Pairs.{pairOf};
+ghost use Rattle.curves.specs.Rounds.{cutOff, Crossed};
 ghost use Rattle.bounds.specs.Bounds.{Bounded};
 ghost use Rattle.bounds.specs.Answers.{Found};
 
@@ -55,4 +56,21 @@ pub fn within_limit(figures: &[u32]) -> bool
         i += 1;
     }
     within
+}
+
+// Whether some least is above its ceiling. A least that is missing counts as 0.
+pub fn crossed(upper: &[u32], lower: &[u32]) -> bool
+    ensures { λ r. ⌜ Tells r (Crossed cutOff (pairOf (now (upper .entry)) (now (lower .entry)))) ⌝ }
+{
+    let mut i = 0;
+    while i < upper.len() {
+        if lower.len() <= i {
+            return false;
+        }
+        if upper[i] < lower[i] {
+            return true;
+        }
+        i += 1;
+    }
+    false
 }

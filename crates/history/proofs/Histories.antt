@@ -1,13 +1,15 @@
 -- Laws over plain variables that the proofs about a history cite.
 -- Assumes nothing.
-use Rattle.laws.proofs.Base.{ℕ, suc, _+_, _-_, _≤_, _<_, _≡_, refl, sym, ap, _∙_, subst, subst⁻¹, List, [], _∷_, _++_, add-one, arith}
+use Rattle.laws.proofs.Base.{Bool, length-replicate, ℕ, suc, _+_, _-_, _≤_, _<_, _≡_, refl, sym, ap, _∙_, subst, subst⁻¹, List, [], _∷_, _++_, add-one, arith}
 use Rattle.laws.proofs.Base.{length, getD, set, take, drop, replicate, length-append, length-drop, length-set, length-take-le, ext-getD}
 use Rattle.laws.proofs.Base.{getD-drop, take-at}
 use types.Run.{OneOf, miss}
 use denote.Enum.Declared.{tagOf}
 use lib.Seq.{take-suc-set, getD-take}
+use Rattle.lists.specs.Copying.{Copied}
+use Rattle.lists.proofs.Whole.{beginning}
 use Rattle.laws.specs.Ranges.{table}
-use Rattle.laws.proofs.Table.{Filled, stored, later, filled-front, length-table, getD-table, table-self}
+use Rattle.laws.proofs.Table.{Filled, stored, later, length-table, getD-table}
 use Rattle.curves.specs.Pairs.{Pair, figure, pairOf, horizon}
 use Rattle.curves.specs.Ticks.{then}
 use Rattle.curves.specs.Questions.{AllYes, FirstNo, result, refusal}
@@ -144,13 +146,11 @@ module _ (s : History) (x : ℕ) (l : s .held < length (s .ticks)) where
       ∙ ap (λ k. drop k longer) (sym one))
 
 -- ---- an opening
--- The figures are stored at the front of an array of zeros.
-pub padded-done
-    : (us zeros out : List ℕ) (i : ℕ) → zeros ≡ replicate maxHorizon 0 → Filled (figure 0 us) zeros out i → i ≡ length us
-    → out ≡ paddedTo us
-unfolding figure
-padded-done us zeros out i z t e =
-    filled-front t (length us) e ∙ (λ j. table-self (figure 0 us) us 0 (λ k l. refl) j ++ drop (length us) (z j))
+-- The figures are put over the first of an array of zeros.
+pub padded-is : (us zeros out : List ℕ) (same : Bool) → length us ≤ maxHorizon → zeros ≡ replicate maxHorizon 0
+    → Copied us zeros out same → out ≡ paddedTo us
+padded-is us zeros out same h z c =
+    beginning c (omega (arith, ap length z, length-replicate {A = ℕ} maxHorizon 0)) ∙ ap (λ l. us ++ drop (length us) l) z
 
 -- They are the entries that count.
 entries-padded : (us rest : List ℕ) (h : ℕ) → length us ≡ h → entries h (us ++ rest) ≡ us

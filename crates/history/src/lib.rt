@@ -167,11 +167,7 @@ fn padded(figures: &[u32]) -> [u32; MAX_HORIZON]
     ensures { λ r. ⌜ r ≡ paddedTo (now (figures .entry)) ⌝ }
 {
     let mut out = zeros();
-    let mut i = 0;
-    while i < figures.len() {
-        out[i] = figures[i];
-        i += 1;
-    }
+    lists::copy(figures, &mut out);
     out
 }
 

@@ -7,3 +7,4 @@ pub mod Pigeonhole
 pub mod Tests
 pub mod Whole
 pub mod Writing
+pub mod Copying

@@ -1,9 +1,13 @@
 -- Writing into a list that is lent, from a place on.
 use Prim.Native.Nat.{ℕ, _+_}
 use mathlib.Core.Path.{_≡_}
-use mathlib.Core.List.{List}
-use lib.ListN.{length}
+use mathlib.Core.List.{List, _++_}
+use lib.ListN.{length, take, drop}
 use lib.Seq.{sets}
+
+-- The beginning of xs, as much of it as ys has room for, in place of that of ys.
+abbrev pub over : List ℕ → List ℕ → List ℕ
+over xs ys = take (length ys) xs ++ drop (length xs) ys
 
 -- The entries t are put into `found` from the place `at` on; `next` is the place after them.
 pub record Wrote (found : List ℕ) (at : ℕ) (t : List ℕ) (left : List ℕ) (next : ℕ) : Type 0 where

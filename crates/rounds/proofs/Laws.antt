@@ -1,11 +1,10 @@
 -- Laws over plain variables that the proofs of this crate's functions cite.
 -- Assumes nothing.
-use Rattle.laws.proofs.Base.{ℕ, _+_, _-_, _≤_, _≡_, refl, ap, _∙_, List}
+use Rattle.laws.proofs.Base.{ℕ, _+_, _-_, _≤_, _≡_, ap, _∙_, List}
 use Rattle.laws.specs.Ranges.{fold}
 use Rattle.laws.proofs.Best.{fold-turn}
-use Rattle.curves.specs.Pairs.{Pair, figure}
+use Rattle.curves.specs.Pairs.{figure}
 use Rattle.curves.specs.Rounds.{cutOff, newFigure}
-use Rattle.rounds.specs.Rounding.{Ready, Rounded}
 use Rattle.rounds.specs.Steps.{sums, differences}
 
 -- A turn of a loop that holds the best of x and f 1 to f (k - 1), and takes f k.
@@ -13,10 +12,6 @@ pub best-turn
     : (op : ℕ → ℕ → ℕ) (x : ℕ) (f : ℕ → ℕ) (k held more next : ℕ) → 1 ≤ k
     → held ≡ fold op x f (k - 1) → more ≡ f k → next ≡ op held more → next ≡ fold op x f (k + 1 - 1)
 best-turn op x f k held more next h p q r = r ∙ rw (p, q) (fold-turn op x f k h)
-
--- The lists are not ready, and are left as they were found.
-pub as-found : (p found : Pair) → ¬ Ready p found → Rounded p found found
-as-found p found n = record { computed = λ r. absurd (n r); stays = λ _. refl }
 
 -- A new figure is the best of the sums, and then of the differences.
 pub new-figure

@@ -4,10 +4,11 @@
 ghost use mathlib.Core.Path.{_≡_};
 ghost use Prim.Native.Nat.{_+_, _-_, _≤_, _<_, min, max};
 ghost use lib.ListN.{length};
+ghost use Rattle.laws.specs.Tests.{Tells};
 ghost use Rattle.curves.specs.Pairs.{figure, pairOf};
-ghost use Rattle.curves.specs.Rounds.{cutOff, newUpper, newLower};
+ghost use Rattle.curves.specs.Rounds.{cutOff, newUpper, newLower, round};
 ghost use Rattle.bounds.specs.Bounds.{Bounded};
-ghost use Rattle.rounds.specs.Rounding.{Rounded};
+ghost use Rattle.rounds.specs.Rounding.{Ready, Rounded};
 ghost use Rattle.rounds.specs.Steps.{sums};
 
 // The figures of one window.
@@ -22,21 +23,37 @@ pub fn round(upper: &[u32], lower: &[u32], new_upper: &mut [u32], new_lower: &mu
     ensures { λ _. ⌜ Rounded (pairOf (now (upper .entry)) (now (lower .entry)))
         (pairOf (now («new_upper» .entry)) (now («new_lower» .entry))) (pairOf (now («new_upper» .exit)) (now («new_lower» .exit))) ⌝ }
 {
-    if lower.len() != upper.len() {
-        return;
+    if ready(upper, lower, new_upper, new_lower) {
+        fill(upper, lower, new_upper, new_lower);
     }
-    if new_upper.len() != upper.len() {
-        return;
+}
+
+// Whether a round is computed for these lists.
+pub fn ready(upper: &[u32], lower: &[u32], new_upper: &[u32], new_lower: &[u32]) -> bool
+    ensures { λ r. ⌜ Tells r
+        (Ready (pairOf (now (upper .entry)) (now (lower .entry))) (pairOf (now («new_upper» .entry)) (now («new_lower» .entry)))) ⌝ }
+{
+    let h = upper.len();
+    if lower.len() != h {
+        return false;
     }
-    if new_lower.len() != upper.len() {
-        return;
+    if new_upper.len() != h {
+        return false;
     }
-    if !bounds::within_limit(upper) {
-        return;
+    if new_lower.len() != h {
+        return false;
     }
-    if !bounds::within_limit(lower) {
-        return;
+    if bounds::within_limit(upper) {
+        return bounds::within_limit(lower);
     }
+    false
+}
+
+// The new figures, window by window.
+fn fill(upper: &[u32], lower: &[u32], new_upper: &mut [u32], new_lower: &mut [u32])
+    requires { ⌜ Ready (pairOf (now upper) (now lower)) (pairOf (now «new_upper») (now «new_lower»)) ⌝ }
+    ensures { λ _. ⌜ pairOf (now («new_upper» .exit)) (now («new_lower» .exit)) ≡ round cutOff (pairOf (now (upper .entry)) (now (lower .entry))) ⌝ }
+{
     let mut i = 0;
     while i < upper.len() {
         let figures = new_figures(upper, lower, i + 1);

@@ -1,53 +1,18 @@
 -- Laws over plain variables that the proofs of this crate's functions cite.
 -- Assumes nothing.
-use Rattle.laws.proofs.Base.{ℕ, zero, suc, _+_, _≤_, _<_, _≡_, refl, sym, ap, _∙_, subst, subst⁻¹, Bool, true, false, _&&_, List, le-refl}
-use Rattle.laws.proofs.Base.{arith, eqb, length, getD, take, length-take-le, ext-getD}
+use Rattle.laws.proofs.Base.{ℕ, _≤_, _≡_, refl, sym, ap, subst, subst⁻¹, Bool, true, false, _&&_, List}
+use Rattle.laws.proofs.Base.{arith, length, take, length-take-le}
 use mathlib.Core.Path.{subst₂}
 use Rattle.laws.specs.Tests.{Tells}
-use Rattle.laws.proofs.Table.{Filled, later}
-use Rattle.laws.proofs.Tests.{tells-same, eqb-told, all-turn}
-use Rattle.curves.specs.Pairs.{Pair, figure, pairOf}
-use Rattle.curves.specs.Rounds.{cutOff, round, Crossed, Arrives, Crosses}
+use Rattle.curves.specs.Pairs.{Pair, pairOf}
+use Rattle.curves.specs.Rounds.{cutOff, Crossed, Arrives, Crosses}
 use Rattle.bounds.specs.Bounds.{maxHorizon, Bounded}
 use Rattle.runs.specs.Running.{Fit, Ended}
-use Rattle.runs.specs.Steps.{Advanced, Stopped, Delivered}
+use Rattle.runs.specs.Steps.{Stopped, Delivered}
 use Rattle.runs.specs.declared.Ending.{Ending}
 use Rattle.runs.specs.declared.Ending.the-variants.{Arrived}
 use Rattle.runs.specs.declared.Stop.{Stop}
 use Rattle.runs.specs.declared.Stop.the-variants.{Settled}
-
--- Lists that are the same before i: a turn of the loop that stores xs over ys, and its end.
-abbrev pub SameBefore : List ℕ → List ℕ → ℕ → Type 0
-SameBefore xs ys i = (k : ℕ) → k < i → getD ys k 0 ≡ getD xs k 0
-
-pub same-turn
-    : (f : ℕ → ℕ) (xs ys out : List ℕ) (i : ℕ) (b : Bool) → Filled f ys out i → Tells b (SameBefore xs ys i)
-    → Tells (b && eqb (getD out i 0) (getD xs i 0)) (SameBefore xs ys (i + 1))
-same-turn f xs ys out i b t h =
-    let kept : getD out i 0 ≡ getD ys i 0 = later t i (le-refl i) in
-    all-turn (λ k. getD ys k 0 ≡ getD xs k 0) i b _ h
-    (subst (λ (y : ℕ). Tells (eqb (getD out i 0) (getD xs i 0)) (y ≡ getD xs i 0)) kept (eqb-told (getD out i 0) (getD xs i 0)))
-
-pub same-told
-    : (xs ys : List ℕ) (i : ℕ) (b : Bool) → i ≡ length xs → length ys ≡ length xs → Tells b (SameBefore xs ys i) → Tells b (xs ≡ ys)
-same-told xs ys i b e l =
-    tells-same b (
-      (λ h. sym (ext-getD 0 ys xs l (λ k m. h k (omega arith)))),
-      (λ q k m. ap (λ zs. getD zs k 0) (sym q)),
-    )
-
--- A least above its ceiling, by its index, and none as far as the lists go.
-pub crossed-at : (us ls : List ℕ) (i : ℕ) → i < length us → getD us i 0 < getD ls i 0 → Crossed cutOff (pairOf us ls)
-unfolding figure
-crossed-at us ls i h l = record { window = suc i; positive = omega arith; within = h; above = l }
-
-pub uncrossed : (us ls : List ℕ) → ((i : ℕ) → i < length us → getD ls i 0 ≤ getD us i 0) → ¬ Crossed cutOff (pairOf us ls)
-unfolding figure
-uncrossed us ls h x = go (x .window) (x .positive) (x .within) (x .above)
-  where
-    go : (d : ℕ) → 1 ≤ d → d ≤ length us → figure 0 us d < figure 0 ls d → ⊥
-    go zero p q l = absurd (omega arith)
-    go (suc d) p q l = omega (arith, h d q)
 
 -- Two pairs are the same where their ceilings and their leasts are.
 pub pairs-told
@@ -55,17 +20,6 @@ pub pairs-told
 pairs-told us ls nus nls true true e f = λ i. record { upper = e i; lower = f i }
 pairs-told us ls nus nls true false e f = λ q. f (ap (λ p. p .lower) q)
 pairs-told us ls nus nls false t e f = λ q. e (ap (λ p. p .upper) q)
-
--- A round is put into nus and nls, and from there into xs and ys.
-pub advanced
-    : (us ls nus nls xs ys : List ℕ) (b : Bool)
-    → pairOf nus nls ≡ round cutOff (pairOf us ls)
-    → Tells b (pairOf nus nls ≡ pairOf us ls) → xs ≡ nus → ys ≡ nls → Advanced (pairOf us ls) b (pairOf xs ys)
-advanced us ls nus nls xs ys b r t p q =
-    record {
-      figures = (λ i. pairOf (p i) (q i)) ∙ r;
-      told = rw (p, q) t;
-    }
 
 -- What a stop that is known tells.
 pub delivered

@@ -5,7 +5,6 @@ ghost use Prim.Native.Nat.{_≤_};
 ghost use lib.ListN.{length};
 ghost use Rattle.laws.specs.Tests.{Tells};
 ghost use Rattle.curves.specs.Pairs.{pairOf};
-ghost use Rattle.curves.specs.Rounds.{cutOff, Crossed};
 ghost use Rattle.bounds.specs.Bounds.{maxHorizon, Bounded};
 ghost use Rattle.rounds.specs.Rounding.{SameLengths, Ready};
 ghost use Rattle.runs.specs.Running.{Fit, Ended};
@@ -47,23 +46,10 @@ fn fits(ceilings: &[u32], leasts: &[u32], upper: &[u32], lower: &[u32]) -> bool
     ensures { λ r. ⌜ Tells r
         (Fit (pairOf (now (ceilings .entry)) (now (leasts .entry))) (pairOf (now (upper .entry)) (now (lower .entry)))) ⌝ }
 {
-    let h = ceilings.len();
-    if MAX_HORIZON < h {
+    if MAX_HORIZON < ceilings.len() {
         return false;
     }
-    if leasts.len() != h {
-        return false;
-    }
-    if upper.len() != h {
-        return false;
-    }
-    if lower.len() != h {
-        return false;
-    }
-    if bounds::within_limit(ceilings) {
-        return bounds::within_limit(leasts);
-    }
-    false
+    rounds::ready(ceilings, leasts, upper, lower)
 }
 
 // Runs the rounds in four arrays.
@@ -106,8 +92,8 @@ fn run_with(
     ensures { λ r. ⌜ Ended (pairOf (now (ceilings .entry)) (now (leasts .entry))) r
         (pairOf (now (upper .entry)) (now (lower .entry))) (pairOf (now (upper .exit)) (now (lower .exit))) ⌝ }
 {
-    copy(ceilings, held_upper);
-    copy(leasts, held_lower);
+    lists::copy(ceilings, held_upper);
+    lists::copy(leasts, held_lower);
     let stop = until_stop(held_upper, held_lower, new_upper, new_lower);
     deliver(stop, held_upper, held_lower, upper, lower)
 }
@@ -126,8 +112,8 @@ fn deliver(
 {
     match stop {
         Stop::Settled { rounds } => {
-            copy(held_upper, upper);
-            copy(held_lower, lower);
+            lists::copy(held_upper, upper);
+            lists::copy(held_lower, lower);
             Ending::Arrived { rounds }
         }
         Stop::Crossed { rounds } => Ending::Crossed { rounds },
@@ -155,7 +141,7 @@ fn until_stop(
 {
     let mut rounds: u32 = 0;
     loop {
-        if crossed(upper, lower) {
+        if bounds::crossed(upper, lower) {
             return Stop::Crossed { rounds };
         }
         if advance(upper, lower, new_upper, new_lower) {
@@ -176,38 +162,7 @@ fn advance(
     ensures { λ r. ⌜ Advanced (pairOf (now (upper .entry)) (now (lower .entry))) r (pairOf (now (upper .exit)) (now (lower .exit))) ⌝ }
 {
     rounds::round(upper, lower, new_upper, new_lower);
-    let uppers_same = copy(new_upper, upper);
-    let lowers_same = copy(new_lower, lower);
+    let uppers_same = lists::copy(new_upper, upper);
+    let lowers_same = lists::copy(new_lower, lower);
     uppers_same & lowers_same
-}
-
-// Whether some least is above its ceiling.
-fn crossed(upper: &[u32], lower: &[u32]) -> bool
-    requires { ⌜ length (now lower) ≡ length (now upper) ⌝ }
-    ensures { λ r. ⌜ Tells r (Crossed cutOff (pairOf (now (upper .entry)) (now (lower .entry)))) ⌝ }
-{
-    let mut i = 0;
-    while i < upper.len() {
-        if upper[i] < lower[i] {
-            return true;
-        }
-        i += 1;
-    }
-    false
-}
-
-// The figures of `from`, put into `to`, and whether they stood there already.
-fn copy(from: &[u32], to: &mut [u32]) -> bool
-    requires { ⌜ length (now to) ≡ length (now from) ⌝ }
-    ensures { λ _. ⌜ now (to .exit) ≡ now (from .entry) ⌝ }
-    ensures { λ r. ⌜ Tells r (now (from .entry) ≡ now (to .entry)) ⌝ }
-{
-    let mut same = true;
-    let mut i = 0;
-    while i < from.len() {
-        same = same & (to[i] == from[i]);
-        to[i] = from[i];
-        i += 1;
-    }
-    same
 }

@@ -1,7 +1,8 @@
 -- `runs::advance` meets its contract: what is copied back is the round that was compared.
 -- Assumes nothing.
-use borrow.Author.Needs.{needs}
-use Rattle.runs.proofs.Laws.{pairs-told, advanced}
+use Rattle.laws.proofs.Base.{_∙_, needs}
+use Rattle.lists.proofs.Whole.{whole}
+use Rattle.runs.proofs.Laws.{pairs-told, same-pairs}
 use Rattle.runs.proofs.advance.Statement.{statement}
 use Rattle.runs.proofs.advance.Tie as tie
 
@@ -13,9 +14,12 @@ returns c =
     let start = first .before .before .before .before .before .before .before .before .before in
     let us = start .args .upper .now in
     let ls = start .args .lower .now in
-    advanced us ls _ _ _ _ _ (first .round .ensures .computed (start .pre))
-    (pairs-told us ls _ _ (uppers .result) (lowers .result) (uppers .ensures .1) (lowers .ensures .1))
-    (uppers .ensures .0) (lowers .ensures .0)
+    record {
+      figures =
+          same-pairs _ _ _ _ (whole (uppers .ensures) (search needs)) (whole (lowers .ensures) (search needs))
+          ∙ first .round .ensures .computed (start .pre);
+      told = pairs-told us ls _ _ (uppers .result) (lowers .result) (uppers .ensures .told) (lowers .ensures .told);
+    }
 
 pub advance-spec : {M : Type 1} → statement M
 advance-spec =

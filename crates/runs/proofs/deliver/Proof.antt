@@ -1,6 +1,7 @@
 -- `runs::deliver` meets its contract: in each arm the stop is known, and with it which pair the result lists hold.
 -- Assumes nothing.
 use Rattle.laws.proofs.Base.{refl, needs}
+use Rattle.lists.proofs.Whole.{whole}
 use Rattle.runs.proofs.Laws.{delivered, undelivered, same-pairs}
 use Rattle.runs.proofs.deliver.Statement.{statement}
 use Rattle.runs.proofs.deliver.Tie as tie
@@ -9,7 +10,7 @@ returns : tie.Need-returns
 returns c =
     let copied = c .before .before .before .before .before .before in
     let stop = copied .before .before .before .stop in
-    delivered _ _ _ _ _ (stop .given .1) (same-pairs _ _ _ _ (copied .copy .ensures .0) (c .before .before .copy2 .ensures .0))
+    delivered _ _ _ _ _ (stop .given .1) (same-pairs _ _ _ _ (whole (copied .copy .ensures) (search needs)) (whole (c .before .before .copy2 .ensures) (search needs)))
 
 returns-2 : tie.Need-returns-2
 returns-2 c = undelivered _ _ _ _ _ (c .before .stop2 .given .1) refl

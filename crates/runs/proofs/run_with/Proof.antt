@@ -1,6 +1,7 @@
 -- `runs::run_with` meets its contract: the rounds are those of the pair that was copied, and what they stop with is delivered.
 -- Assumes nothing.
 use Rattle.laws.proofs.Base.{ap, arith, needs, length}
+use Rattle.lists.proofs.Whole.{whole}
 use Rattle.runs.proofs.Laws.{ready, ended, same-pairs}
 use Rattle.runs.proofs.run_with.Statement.{statement}
 use Rattle.runs.proofs.run_with.Tie as tie
@@ -16,9 +17,10 @@ until-stop-requires : tie.Need-until-stop-requires
 until-stop-requires c κs =
     let b = c .before .before .before .before .before .before in
     let pre = start (first b) .pre in
-    let uppers = ap length (first b .copy .ensures .0) in
-    let lowers = ap length (b .copy2 .ensures .0) in (
-      ready _ _ (first b .copy .ensures .0) (pre .0 .0, pre .0 .1 .1 .0),
+    let copied = whole (first b .copy .ensures) (pre .1 .0) in
+    let uppers = ap length copied in
+    let lowers = ap length (whole (b .copy2 .ensures) (omega (arith, pre))) in (
+      ready _ _ copied (pre .0 .0, pre .0 .1 .1 .0),
       (omega (arith, uppers, lowers, pre), (omega (arith, uppers, pre), (omega (arith, uppers, pre), tt))),
     )
 
@@ -31,8 +33,8 @@ deliver-requires c κs =
     let r = c .before .before .before .before .before .before .before .before .before .before .before .before in
     let pre = start (first (copied r)) .pre in
     let kept = r .until-stop .kept in
-    let uppers = ap length (first (copied r) .copy .ensures .0) in
-    let lowers = ap length (copied r .copy2 .ensures .0) in (
+    let uppers = ap length (whole (first (copied r) .copy .ensures) (pre .1 .0)) in
+    let lowers = ap length (whole (copied r .copy2 .ensures) (omega (arith, pre))) in (
       omega (arith, kept .0, kept .1 .0, uppers, lowers, pre),
       (omega (arith, kept .0, uppers, pre), (omega (arith, kept .0, uppers, pre), tt)),
     )
@@ -41,8 +43,10 @@ returns : tie.Need-returns
 returns c =
     let d = c .before .before .before .before in
     let r = d .before .before .before .before .before .before .before .before .before .before .before .before .before in
-    let of-p = same-pairs _ _ _ _ (first (copied r) .copy .ensures .0) (copied r .copy2 .ensures .0) in
-    ended _ _ _ _ _ (r .until-stop .result) (d .deliver .result) (start (first (copied r)) .pre .0) of-p (r .until-stop .ensures)
+    let pre = start (first (copied r)) .pre in
+    let uppers = whole (first (copied r) .copy .ensures) (pre .1 .0) in
+    let lowers = whole (copied r .copy2 .ensures) (omega (arith, pre)) in
+    ended _ _ _ _ _ (r .until-stop .result) (d .deliver .result) (pre .0) (same-pairs _ _ _ _ uppers lowers) (r .until-stop .ensures)
     (d .deliver .ensures)
 
 pub run-with-spec : {M : Type 1} → statement M

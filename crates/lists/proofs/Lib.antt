@@ -1,0 +1,2 @@
+-- What a copy leaves, for those who call for one. Assumes nothing.
+pub mod Whole

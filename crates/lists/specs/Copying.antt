@@ -1,0 +1,12 @@
+-- Copying a list over another, as far as there is room.
+use Prim.Native.Nat.{ℕ}
+use mathlib.Core.Path.{_≡_}
+use mathlib.Core.Bool.{Bool}
+use mathlib.Core.List.{List}
+use Rattle.laws.specs.Tests.{Tells}
+use Rattle.laws.specs.Writing.{over}
+
+-- What is left of the list that was found, and whether that is as it was found.
+pub record Copied (from found left : List ℕ) (same : Bool) : Type 0 where
+  pub entries : left ≡ over from found
+  pub told : Tells same (left ≡ found)

@@ -1,0 +1,2 @@
+-- Copying a list.
+pub mod Copying
