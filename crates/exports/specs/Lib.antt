@@ -1,4 +1,3 @@
--- The boundary: answers as numbers, what each call gives back, and what the private functions promise each other.
-pub mod Codes
+-- The boundary: what each call gives back, and what the private functions promise each other.
 pub mod Boundary
 pub mod Steps

@@ -1,13 +1,10 @@
 -- What the private functions of this crate promise each other. No public promise cites anything of it.
-use Prim.Native.Nat.{ℕ, _≤_}
-use Rattle.bounds.specs.Bounds.{maxHorizon}
+use Prim.Native.Nat.{ℕ}
 use Rattle.closure.specs.declared.Closing.{Closing}
 use Rattle.closure.specs.declared.Closing.the-variants as closing
 use Rattle.constraints.specs.declared.Reading.{Reading}
 use Rattle.constraints.specs.declared.Reading.the-variants as reading
-use Rattle.monitor.specs.declared.Verdict.{Verdict}
-use Rattle.monitor.specs.declared.Verdict.the-variants.{Passed, TooMany, TooFew, AlreadyFailed, BadState}
-use Rattle.exports.specs.Codes.{inOne}
+use Rattle.exports.specs.Boundary.{inOne}
 
 -- The number that stands for an answer of closing, and of reading.
 abbrev pub closingCode : Closing → ℕ
@@ -26,11 +23,3 @@ readingCode reading.FigureRange = inOne 8 0
 readingCode reading.WindowAgain = inOne 9 0
 readingCode reading.NoRecord = inOne 10 0
 readingCode reading.ResultLength = inOne 11 0
-
--- A window that is named is no longer than the longest horizon.
-abbrev pub NamesWindow : Verdict → Type 0
-NamesWindow Passed = Unit {0}
-NamesWindow (TooMany d) = d ≤ maxHorizon
-NamesWindow (TooFew d) = d ≤ maxHorizon
-NamesWindow AlreadyFailed = Unit {0}
-NamesWindow BadState = Unit {0}

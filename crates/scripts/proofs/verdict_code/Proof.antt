@@ -1,13 +1,13 @@
--- `exports::verdict_code` meets its contract: a window that is named leaves room for the kind of verdict beside it.
+-- `scripts::verdict_code` meets its contract: a window that is named leaves room for the kind of verdict beside it.
 -- Assumes nothing.
 use Rattle.laws.proofs.Base.{ℕ, _≤_, sym, ap, subst, arith, needs}
 use Rattle.bounds.specs.Bounds.{maxHorizon}
 use Rattle.monitor.specs.declared.Verdict.{Verdict}
 use Rattle.monitor.specs.Answers.{verdictReply}
-use Rattle.exports.specs.Codes.{rulingCode}
-use Rattle.exports.specs.Steps.{NamesWindow}
-use Rattle.exports.proofs.verdict_code.Statement.{statement}
-use Rattle.exports.proofs.verdict_code.Tie as tie
+use Rattle.scripts.specs.Codes.{rulingCode}
+use Rattle.scripts.specs.Steps.{NamesWindow}
+use Rattle.scripts.proofs.verdict_code.Statement.{statement}
+use Rattle.scripts.proofs.verdict_code.Tie as tie
 
 -- The window of each kind of verdict that names one is at most 256.
 many : (k : tie.After-verdict) → k .verdict .given .0 .0 ≤ maxHorizon

@@ -1,14 +1,14 @@
--- `exports::generate` meets its contract: before a turn the choices before i have led to counts, and the generator is where these left it.
+-- `scripts::generate` meets its contract: before a turn the choices before i have led to counts, and the generator is where these left it.
 -- Assumes nothing.
 use Rattle.laws.proofs.Base.{ℕ, _-_, _≤_, _≡_, refl, ap, _∙_, List, map, arith, needs, length}
 use Rattle.history.specs.States.{View, viewOf}
 use Rattle.generator.specs.Generating.{sending}
 use Rattle.generator.specs.Runs.{viewAfter, sendings}
 use Rattle.generator.proofs.Said.{generator-next}
-use Rattle.exports.specs.Codes.{sendingCode}
-use Rattle.exports.proofs.Scripts.{Ran, ran-none, ran-more, ran-all}
-use Rattle.exports.proofs.generate.Statement.{statement}
-use Rattle.exports.proofs.generate.Tie as tie
+use Rattle.scripts.specs.Codes.{sendingCode}
+use Rattle.scripts.proofs.Scripts.{Ran, ran-none, ran-more, ran-all}
+use Rattle.scripts.proofs.generate.Statement.{statement}
+use Rattle.scripts.proofs.generate.Tie as tie
 
 abbrev run : View → List ℕ → List ℕ
 run v choices = map sendingCode (sendings v choices)

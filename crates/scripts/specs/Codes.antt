@@ -1,12 +1,8 @@
--- Answers as numbers, for callers that have numbers and lists only.
-use Prim.Native.Nat.{ℕ, _+_, _*_}
+-- Answers as numbers: those of a script, and of the opening before it.
+use Prim.Native.Nat.{ℕ, _+_}
 use Rattle.curves.specs.Ticks.{passed, tooMany, tooFew}
 use Rattle.curves.specs.Questions.{Reply, result, refusal}
 use Rattle.monitor.specs.Monitoring.{Ruling, judged, alreadyFailed}
-
--- A refusal's number in the upper 32 bits, a value in the lower. Values are below 4,294,967,296, and 0 on a refusal.
-abbrev pub inOne : ℕ → ℕ → ℕ
-inOne number value = number * 4_294_967_296 + value
 
 -- The number of a refusal; 0 where there is none.
 abbrev pub numberOf : {A : Type 0} → Reply A → ℕ

@@ -1,14 +1,14 @@
--- `exports::judge` meets its contract: before a turn the counts before i have their verdicts, and the monitor is where these left it.
+-- `scripts::judge` meets its contract: before a turn the counts before i have their verdicts, and the monitor is where these left it.
 -- Assumes nothing.
 use Rattle.laws.proofs.Base.{ℕ, _-_, _≤_, _≡_, refl, ap, _∙_, List, map, arith, needs, length}
 use Rattle.monitor.specs.Monitoring.{MonitorView, monitorViewOf, judging}
 use Rattle.monitor.specs.Runs.{afterTick, rulings}
 use Rattle.monitor.proofs.Said.{monitor-next}
-use Rattle.exports.specs.Codes.{rulingCode}
-use Rattle.exports.proofs.Coded.{names-window}
-use Rattle.exports.proofs.Scripts.{Ran, ran-none, ran-more, ran-all}
-use Rattle.exports.proofs.judge.Statement.{statement}
-use Rattle.exports.proofs.judge.Tie as tie
+use Rattle.scripts.specs.Codes.{rulingCode}
+use Rattle.scripts.proofs.Coded.{names-window}
+use Rattle.scripts.proofs.Scripts.{Ran, ran-none, ran-more, ran-all}
+use Rattle.scripts.proofs.judge.Statement.{statement}
+use Rattle.scripts.proofs.judge.Tie as tie
 
 abbrev run : MonitorView → List ℕ → List ℕ
 run w xs = map rulingCode (rulings w xs)

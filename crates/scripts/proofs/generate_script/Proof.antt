@@ -1,14 +1,12 @@
--- `exports::calgedze_judge` meets its promise: where the monitor opens, its ticks are those of the script.
+-- `scripts::generate_script` meets its promise: where the generator opens, its ticks are those of the script.
 -- Assumes nothing.
-use Rattle.laws.proofs.Base.{refl, ap, _∙_, false, map, needs}
+use Rattle.laws.proofs.Base.{refl, map, needs}
 use Rattle.curves.specs.Pairs.{pairOf}
-use Rattle.monitor.specs.Monitoring.{monitorView}
-use Rattle.monitor.specs.Runs.{rulings}
-use Rattle.history.specs.States.{viewOf}
-use Rattle.exports.specs.Codes.{rulingCode}
-use Rattle.exports.proofs.Coded.{run-opened, run-refused}
-use Rattle.exports.proofs.calgedze_judge.Statement.{statement}
-use Rattle.exports.proofs.calgedze_judge.Tie as tie
+use Rattle.generator.specs.Runs.{sendings}
+use Rattle.scripts.specs.Codes.{sendingCode}
+use Rattle.scripts.proofs.Coded.{run-opened, run-refused}
+use Rattle.scripts.proofs.generate_script.Statement.{statement}
+use Rattle.scripts.proofs.generate_script.Tie as tie
 
 returns : tie.Need-returns
 returns c =
@@ -18,9 +16,7 @@ returns c =
     let args = ran .before .before .before .before .before .before .before .before .before .args in
     run-opened (told .result .opening) _ (told .ensures .answer) _ (number .ensures) (ran .before .before .if1 .taken)
     (pairOf (args .ceilings .now) (args .leasts .now)) _ (told .ensures .history)
-    (λ v. map rulingCode (rulings (monitorView v false) (args .script .now))) (args .script .now) _
-    (ran .judge .ensures
-    ∙ ap (λ b. map rulingCode (rulings (monitorView (viewOf (told .result .state .history)) b) (args .script .now))) (told .ensures .unfailed))
+    (λ v. map sendingCode (sendings v (args .script .now))) (args .script .now) _ (ran .generate .ensures)
 
 returns-2 : tie.Need-returns-2
 returns-2 c =
@@ -28,8 +24,8 @@ returns-2 c =
     let told = c .before .before .before .«open» in
     run-refused (told .result .opening) _ (told .ensures .answer) _ (number .ensures) (c .if1 .left) _ _ _ refl
 
-pub calgedze-judge-spec : {M : Type 1} → statement M
-calgedze-judge-spec =
+pub generate-script-spec : {M : Type 1} → statement M
+generate-script-spec =
     tie.close
     (tie.spec
     (λ c κs. search needs)

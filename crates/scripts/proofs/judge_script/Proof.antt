@@ -1,12 +1,14 @@
--- `exports::calgedze_generate` meets its promise: where the generator opens, its ticks are those of the script.
+-- `scripts::judge_script` meets its promise: where the monitor opens, its ticks are those of the script.
 -- Assumes nothing.
-use Rattle.laws.proofs.Base.{refl, map, needs}
+use Rattle.laws.proofs.Base.{refl, ap, _∙_, false, map, needs}
 use Rattle.curves.specs.Pairs.{pairOf}
-use Rattle.generator.specs.Runs.{sendings}
-use Rattle.exports.specs.Codes.{sendingCode}
-use Rattle.exports.proofs.Coded.{run-opened, run-refused}
-use Rattle.exports.proofs.calgedze_generate.Statement.{statement}
-use Rattle.exports.proofs.calgedze_generate.Tie as tie
+use Rattle.monitor.specs.Monitoring.{monitorView}
+use Rattle.monitor.specs.Runs.{rulings}
+use Rattle.history.specs.States.{viewOf}
+use Rattle.scripts.specs.Codes.{rulingCode}
+use Rattle.scripts.proofs.Coded.{run-opened, run-refused}
+use Rattle.scripts.proofs.judge_script.Statement.{statement}
+use Rattle.scripts.proofs.judge_script.Tie as tie
 
 returns : tie.Need-returns
 returns c =
@@ -16,7 +18,10 @@ returns c =
     let args = ran .before .before .before .before .before .before .before .before .before .args in
     run-opened (told .result .opening) _ (told .ensures .answer) _ (number .ensures) (ran .before .before .if1 .taken)
     (pairOf (args .ceilings .now) (args .leasts .now)) _ (told .ensures .history)
-    (λ v. map sendingCode (sendings v (args .script .now))) (args .script .now) _ (ran .generate .ensures)
+    (λ v. map rulingCode (rulings (monitorView v false) (args .script .now))) (args .script .now) _
+    (ran .judge .ensures
+    ∙ ap (λ b. map rulingCode (rulings (monitorView (viewOf (told .result .state .history)) b) (args .script .now)))
+    (told .ensures .unfailed))
 
 returns-2 : tie.Need-returns-2
 returns-2 c =
@@ -24,8 +29,8 @@ returns-2 c =
     let told = c .before .before .before .«open» in
     run-refused (told .result .opening) _ (told .ensures .answer) _ (number .ensures) (c .if1 .left) _ _ _ refl
 
-pub calgedze-generate-spec : {M : Type 1} → statement M
-calgedze-generate-spec =
+pub judge-script-spec : {M : Type 1} → statement M
+judge-script-spec =
     tie.close
     (tie.spec
     (λ c κs. search needs)

@@ -1,0 +1,3 @@
+-- What is proved of the functions that run a script.
+mod Coded
+mod Scripts

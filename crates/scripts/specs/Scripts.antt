@@ -1,0 +1,29 @@
+-- What running a script gives back: the opening's number, and the entries as the calls leave them.
+use Prim.Native.Nat.{ℕ}
+use mathlib.Core.Bool.{false}
+use mathlib.Core.List.{List, map}
+use Rattle.curves.specs.Pairs.{Pair}
+use Rattle.curves.specs.Questions.{Reply, result, refusal}
+use Rattle.history.specs.Opening.{opening, fresh}
+use Rattle.monitor.specs.Monitoring.{monitorView}
+use Rattle.monitor.specs.Runs.{rulings}
+use Rattle.generator.specs.Runs.{sendings}
+use Rattle.scripts.specs.Codes.{rulingCode, sendingCode}
+
+pub record Answered : Type 0 where
+  pub number : ℕ
+  pub entries : List ℕ
+
+abbrev pub answered : ℕ → List ℕ → Answered
+answered r left = record { number = r; entries = left }
+
+-- The answers to the calls; or the opening's refusal, and then the script as found.
+abbrev pub afterOpening : Reply (Unit {0}) → List ℕ → List ℕ → Answered
+afterOpening (result _) answers found = answered 0 answers
+afterOpening (refusal n) answers found = answered n found
+
+abbrev pub judgedScript : Pair → List ℕ → Answered
+judgedScript p counts = afterOpening (opening p) (map rulingCode (rulings (monitorView (fresh p) false) counts)) counts
+
+abbrev pub sentScript : Pair → List ℕ → Answered
+sentScript p choices = afterOpening (opening p) (map sendingCode (sendings (fresh p) choices)) choices

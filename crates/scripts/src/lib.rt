@@ -1,0 +1,129 @@
+// Running a list of calls on a fresh state: the script holds what each call gets, and after it what each is answered.
+
+use generator::Generator;
+use generator::Sending;
+use history::Opening;
+use monitor::Monitor;
+use monitor::Verdict;
+ghost use mathlib.Core.Path.{_≡_};
+ghost use mathlib.Core.List.{map};
+ghost use Rattle.curves.specs.Pairs.{pairOf};
+ghost use Rattle.history.specs.States.{viewOf};
+ghost use Rattle.history.specs.Answers.{openingReply};
+ghost use Rattle.monitor.specs.Monitoring.{monitorViewOf};
+ghost use Rattle.monitor.specs.Answers.{verdictReply};
+ghost use Rattle.monitor.specs.Runs.{rulings};
+ghost use Rattle.generator.specs.Answers.{sendingReply};
+ghost use Rattle.generator.specs.Runs.{sendings};
+ghost use Rattle.scripts.specs.Codes.{numberOf, rulingCode, sendingCode};
+ghost use Rattle.scripts.specs.Scripts.{answered, judgedScript, sentScript};
+ghost use Rattle.scripts.specs.Steps.{NamesWindow};
+
+// Verdicts as entries of a script.
+const PASSED: u32 = 0;
+
+const TOO_MANY: u32 = 1_000;
+
+const TOO_FEW: u32 = 2_000;
+
+const ALREADY_FAILED: u32 = 3_000;
+
+// And a refusal, with its number added.
+const REFUSED: u32 = 4_000_000_000;
+
+// A monitor, opened and given the counts of the script. Each is overwritten with its verdict.
+pub fn judge_script(ceilings: &[u32], leasts: &[u32], script: &mut [u32]) -> u32
+    ensures { λ r. ⌜ answered r (now (script .exit))
+        ≡ judgedScript (pairOf (now (ceilings .entry)) (now (leasts .entry))) (now (script .entry)) ⌝ }
+{
+    let opened = Monitor::open(ceilings, leasts);
+    let opening = opened.opening;
+    let state = opened.state;
+    let number = opening_number(opening);
+    if number == 0 {
+        judge(state, script);
+    }
+    number
+}
+
+// The ticks of a script, each by the state that the one before it left.
+fn judge(opened: Monitor, script: &mut [u32])
+    ensures { λ _. ⌜ now (script .exit) ≡ map rulingCode (rulings (monitorViewOf opened) (now (script .entry))) ⌝ }
+{
+    let mut monitor = opened;
+    let mut i = 0;
+    while i < script.len() {
+        let judgement = monitor.tick(script[i]);
+        let verdict = judgement.verdict;
+        script[i] = verdict_code(verdict);
+        monitor = judgement.next;
+        i += 1;
+    }
+}
+
+// A verdict as an entry.
+fn verdict_code(verdict: Verdict) -> u32
+    requires { ⌜ NamesWindow verdict ⌝ }
+    ensures { λ r. ⌜ r ≡ rulingCode (verdictReply verdict) ⌝ }
+{
+    match verdict {
+        Verdict::Passed => PASSED,
+        Verdict::TooMany { window } => TOO_MANY + window as u32,
+        Verdict::TooFew { window } => TOO_FEW + window as u32,
+        Verdict::AlreadyFailed => ALREADY_FAILED,
+        Verdict::BadState => REFUSED + 12,
+    }
+}
+
+// A generator, opened and given the choices of the script. Each is overwritten with the count that is sent.
+pub fn generate_script(ceilings: &[u32], leasts: &[u32], script: &mut [u32]) -> u32
+    ensures { λ r. ⌜ answered r (now (script .exit))
+        ≡ sentScript (pairOf (now (ceilings .entry)) (now (leasts .entry))) (now (script .entry)) ⌝ }
+{
+    let opened = Generator::open(ceilings, leasts);
+    let opening = opened.opening;
+    let state = opened.state;
+    let number = opening_number(opening);
+    if number == 0 {
+        generate(state, script);
+    }
+    number
+}
+
+// The ticks of a script, each by the state that the one before it left.
+fn generate(opened: Generator, script: &mut [u32])
+    ensures { λ _. ⌜ now (script .exit) ≡ map sendingCode (sendings (viewOf (opened .history)) (now (script .entry))) ⌝ }
+{
+    let mut generator = opened;
+    let mut i = 0;
+    while i < script.len() {
+        let sent = generator.tick(script[i]);
+        let sending = sent.sending;
+        script[i] = sending_code(sending);
+        generator = sent.next;
+        i += 1;
+    }
+}
+
+// What a tick of a generator answers, as an entry.
+fn sending_code(sending: Sending) -> u32
+    ensures { λ r. ⌜ r ≡ sendingCode (sendingReply sending) ⌝ }
+{
+    match sending {
+        Sending::Sent { count } => count,
+        Sending::BadState => REFUSED + 12,
+        Sending::NoCount => REFUSED + 13,
+    }
+}
+
+// The number of a refused opening; 0 where the state is ready.
+fn opening_number(opening: Opening) -> u32
+    ensures { λ r. ⌜ r ≡ numberOf (openingReply opening) ⌝ }
+{
+    match opening {
+        Opening::Opened => 0,
+        Opening::UpperLength => 1,
+        Opening::LowerLength => 2,
+        Opening::FigureLimit => 4,
+    }
+}
