@@ -1,8 +1,9 @@
 -- What each call gives back: the operation of the library that it stands for, its answer as a number, its lists as it leaves them.
 -- What a script gives back is said in `scripts`, Scripts.
 use Prim.Native.Nat.{ℕ, _+_, _*_}
-use mathlib.Core.List.{List, _++_}
-use lib.ListN.{length, take, drop}
+use mathlib.Core.List.{List}
+use lib.ListN.{length}
+use Rattle.laws.specs.Writing.{over}
 use Rattle.curves.specs.Pairs.{Pair}
 use Rattle.closure.specs.Closing as closure
 use Rattle.constraints.specs.Reading as constraints
@@ -35,4 +36,4 @@ reported r left = record { length = r; output = left }
 
 -- As many bytes as there is room for; the rest of the list as found.
 abbrev pub reportInto : List ℕ → List ℕ → Reported
-reportInto o found = reported (length o) (take (length found) o ++ drop (length o) found)
+reportInto o found = reported (length o) (over o found)

@@ -3,8 +3,8 @@
 use closure::Closing;
 use constraints::Reading;
 ghost use mathlib.Core.Path.{_≡_};
-ghost use mathlib.Core.List.{_++_};
-ghost use lib.ListN.{length, take, drop};
+ghost use lib.ListN.{length};
+ghost use Rattle.laws.specs.Writing.{over};
 ghost use Rattle.curves.specs.Pairs.{pairOf};
 ghost use Rattle.closure.specs.Closing.{closing};
 ghost use Rattle.constraints.specs.Reading.{reading};
@@ -82,8 +82,7 @@ pub extern "C" fn calgedze_report(text: &[u8], output: &mut [u8]) -> usize
 
 // The beginning of `from`, as far as `to` has room for it.
 fn copy(from: &[u8], to: &mut [u8])
-    ensures { λ _. ⌜ now (to .exit)
-        ≡ take (length (now (to .entry))) (now (from .entry)) ++ drop (length (now (from .entry))) (now (to .entry)) ⌝ }
+    ensures { λ _. ⌜ now (to .exit) ≡ over (now (from .entry)) (now (to .entry)) ⌝ }
 {
     let mut i = 0;
     while i < from.len() {

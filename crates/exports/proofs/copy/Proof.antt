@@ -1,7 +1,7 @@
 -- `exports::copy` meets its contract: before a turn the first i bytes are copied.
 -- Assumes nothing.
 use Rattle.laws.proofs.Base.{_-_, _≤_, _≡_, refl, _++_, arith, needs, length, take, drop}
-use Rattle.exports.proofs.Copied.{copied-more, copied-room, copied-all}
+use Rattle.laws.proofs.Copying.{copied-more, copied-room, copied-all}
 use Rattle.exports.proofs.copy.Statement.{statement}
 use Rattle.exports.proofs.copy.Tie as tie
 
