@@ -15,7 +15,7 @@ use Rattle.closure.specs.declared.Closing.the-variants.{Closed}
 use Rattle.bounds.specs.Bounds.{question1, question2, question4}
 use Rattle.closure.specs.Closing.{question3, refused, closed, closing}
 use Rattle.closure.specs.Answers.{answer}
-use Rattle.closure.specs.Theorems.{Passes}
+use Rattle.closure.specs.Theorems.{PassesFour}
 use Rattle.closure.specs.Steps.{closingFor}
 use Rattle.closure.proofs.Said.{refused-is, closed-is, fifth}
 
@@ -54,7 +54,7 @@ module _ (p found : Pair) where
         }
 
     -- The lists fit exactly where question 4 is answered yes too.
-    passes : Fit p front → Passes p found
+    passes : Fit p front → PassesFour p found
     passes f = (y₁, (y₂, (y₃, (f .1 .1, tt))))
 
     fit : question4 p .asked → Fit p front

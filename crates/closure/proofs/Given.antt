@@ -13,7 +13,7 @@ use Rattle.curves.proofs.Arrival.{arrives-or-crosses}
 use Rattle.curves.proofs.Kept.{crossed-has-no-stream}
 use Rattle.curves.proofs.Closure.{arrives-equal, closure-horizon, closure-begins}
 use Rattle.closure.specs.Closing.{refused, closed, closing}
-use Rattle.closure.specs.Theorems.{Passes, GivesClosure, closureOf, ClosureIsArrivedAt, RefusedIffNoStream, ElseClosed}
+use Rattle.closure.specs.Theorems.{PassesFour, GivesClosure, closureOf, ClosureIsArrivedAt, RefusedIffNoStream, ElseClosed}
 use Rattle.closure.proofs.Said.{refused-is, closed-is, closed-equal, fifth, gives-passes}
 
 module _ (p found : Pair) (g : GivesClosure p found) where
@@ -72,15 +72,15 @@ single : (s : ℕ → ℕ) (i : ℕ) → sum s i 1 ≡ s i
 unfolding sum
 single s i = omega (arith, ap s (add-zero i))
 
-pub within-limit : (p found : Pair) → Passes p found → (s : ℕ → ℕ) → Conforms∞ p s → (i : ℕ) → s i ≤ countLimit
+pub within-limit : (p found : Pair) → PassesFour p found → (s : ℕ → ℕ) → Conforms∞ p s → (i : ℕ) → s i ≤ countLimit
 within-limit p found ok s c i =
     omega (arith, single s i, c i 1 (omega arith) (ok .0 .0), ok .1 .1 .1 .0 .0 1 (omega arith) (ok .0 .0))
 
-abbrev pub streamOf : (p found : Pair) → Passes p found → (s : ℕ → ℕ) → Conforms∞ p s → Stream
+abbrev pub streamOf : (p found : Pair) → PassesFour p found → (s : ℕ → ℕ) → Conforms∞ p s → Stream
 streamOf p found ok s c = record { counts = s; within = within-limit p found ok s c }
 
 -- ---- a stream conforms exactly where the rounds arrive
-some-stream : (p found : Pair) → Passes p found → Closes p → (s : Stream) × Conforms∞ p (s .counts)
+some-stream : (p found : Pair) → PassesFour p found → Closes p → (s : Stream) × Conforms∞ p (s .counts)
 some-stream p found ok a =
     let (s, b, c) = closure-begins p (a .1) (a .0) (a .2) (ok .0 .0) [] (λ i d u v w. absurd (omega arith)) in
     (streamOf p found ok s c, c)

@@ -9,7 +9,7 @@ use Rattle.curves.specs.Theorems.{Closes}
 use Rattle.curves.proofs.Asked.{said-no, said-yes, Positive, no-iff, yes-iff}
 use Rattle.curves.proofs.Arrival.{arrives-once}
 use Rattle.closure.specs.Closing.{questions, refused, closed, closing}
-use Rattle.closure.specs.Theorems.{Passes, GivesWhatArrives, RefusedIffFirstNo, GivesClosure, ClosureIffAllYes}
+use Rattle.closure.specs.Theorems.{PassesFour, GivesWhatArrives, RefusedIffFirstNo, GivesClosure, ClosureIffAllYes}
 
 -- The answer depends on the closure's figures only.
 pub closed-equal : (found : Pair) (m n : ℕ) (q r : Pair) → m ≡ n → Equal q r → closed m q found ≡ closed n r found
@@ -29,13 +29,13 @@ module _ (p found : Pair) where
   unfolding closing
   refused-is n f = said-no (questions p found) _ (λ k. refused k found) n f
 
-  all-yes : Passes p found → Closes p → AllYes (questions p found)
+  all-yes : PassesFour p found → Closes p → AllYes (questions p found)
   all-yes ok c = (ok .0, (ok .1 .0, (ok .1 .1 .0, (ok .1 .1 .1 .0, (c, tt)))))
 
-  passed : AllYes (questions p found) → Passes p found × Closes p
+  passed : AllYes (questions p found) → PassesFour p found × Closes p
   passed ys = ((ys .0, (ys .1 .0, (ys .1 .1 .0, (ys .1 .1 .1 .0, tt)))), ys .1 .1 .1 .1 .0)
 
-  pub closed-is : (n : ℕ) (q : Pair) → Passes p found → Arrives whole p n q → closing p found ≡ closed n q found
+  pub closed-is : (n : ℕ) (q : Pair) → PassesFour p found → Arrives whole p n q → closing p found ≡ closed n q found
   unfolding closing
   closed-is n q ok a = said-yes (questions p found) _ _ (closed n q found) (all-yes ok (n, q, a)) same
     where
@@ -46,11 +46,11 @@ module _ (p found : Pair) where
           closed-equal found (c .0) n (c .1) q (one .0) (one .1)
 
   -- Question 5 is the first that is answered no.
-  pub fifth : Passes p found → ¬ Closes p → FirstNo (questions p found) 5
+  pub fifth : PassesFour p found → ¬ Closes p → FirstNo (questions p found) 5
   fifth ok no₅ = inr (ok .0, inr (ok .1 .0, inr (ok .1 .1 .0, inr (ok .1 .1 .1 .0, inl (refl, no₅)))))
 
   -- A question is answered no, or the lists pass and the rounds arrive.
-  pub cases : ((n : ℕ) × FirstNo (questions p found) n) ⊎ (Passes p found × Closes p)
+  pub cases : ((n : ℕ) × FirstNo (questions p found) n) ⊎ (PassesFour p found × Closes p)
   cases = ⊎-elim (λ ys. inr (passed ys)) inl (ask (questions p found))
 
 -- ---- the statements
@@ -71,5 +71,5 @@ closure-iff-all-yes p found =
     yes-iff (questions p found) _ (λ k. refused k found) (λ x. x .number) (λ k. refl) (λ ys. refl) (positive-numbers p found)
 
 -- Where a closure is given, the lists pass and the rounds arrive.
-pub gives-passes : (p found : Pair) → GivesClosure p found → Passes p found × Closes p
+pub gives-passes : (p found : Pair) → GivesClosure p found → PassesFour p found × Closes p
 gives-passes p found g = passed p found (closure-iff-all-yes p found .0 g)

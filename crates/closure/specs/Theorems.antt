@@ -13,8 +13,8 @@ use Rattle.bounds.specs.Bounds.{question1, question2, question4, pairQuestions}
 use Rattle.closure.specs.Closing.{question3, questions, refused, closed, closing}
 
 -- The lists pass questions 1 to 4: those of the pair p, with result lists found to hold `found`.
-abbrev pub Passes : Pair → Pair → Type 0
-Passes p found = AllYes (question1 p ∷ question2 p ∷ question3 p found ∷ question4 p ∷ [])
+abbrev pub PassesFour : Pair → Pair → Type 0
+PassesFour p found = AllYes (question1 p ∷ question2 p ∷ question3 p found ∷ question4 p ∷ [])
 
 -- A closure is given: the first H entries of the result lists.
 abbrev pub GivesClosure : Pair → Pair → Type 0
@@ -26,7 +26,7 @@ closureOf p found = first (horizon p) (closing p found .results)
 -- ---- 1. Demand 2, its last sentence. What the rounds arrive at is given, with their count; and what is given, they arrive at.
 abbrev pub GivesWhatArrives : Type 0
 GivesWhatArrives =
-    (p found : Pair) (n : ℕ) (q : Pair) → Passes p found → Arrives whole p n q → closing p found ≡ closed n q found
+    (p found : Pair) (n : ℕ) (q : Pair) → PassesFour p found → Arrives whole p n q → closing p found ≡ closed n q found
 
 abbrev pub ClosureIsArrivedAt : Type 0
 ClosureIsArrivedAt =
@@ -44,10 +44,10 @@ ClosureIffAllYes = (p found : Pair) → GivesClosure p found ↔ AllYes (questio
 -- Demand 3, its second sentence.
 abbrev pub RefusedIffNoStream : Type 0
 RefusedIffNoStream =
-    (p found : Pair) → Passes p found → (closing p found ≡ refused 5 found) ↔ ((s : Stream) → Conforms∞ p (s .counts) → ⊥)
+    (p found : Pair) → PassesFour p found → (closing p found ≡ refused 5 found) ↔ ((s : Stream) → Conforms∞ p (s .counts) → ⊥)
 
 abbrev pub ElseClosed : Type 0
-ElseClosed = (p found : Pair) → Passes p found → (closing p found ≡ refused 5 found) ⊎ GivesClosure p found
+ElseClosed = (p found : Pair) → PassesFour p found → (closing p found ≡ refused 5 found) ⊎ GivesClosure p found
 
 -- ---- 5. One conforming stream has, for every window d, the closure's ceiling of d in its first d ticks; another has the leasts.
 abbrev pub Follows : Pair → (ℕ → ℕ) → Type 0
@@ -94,4 +94,4 @@ ClosedAgain =
 
 -- A pair is causal exactly where it is its own closure.
 abbrev pub CausalIffGivenBack : Type 0
-CausalIffGivenBack = (p found : Pair) → Passes p found → Causal p ↔ (GivesClosure p found × Equal (closureOf p found) p)
+CausalIffGivenBack = (p found : Pair) → PassesFour p found → Causal p ↔ (GivesClosure p found × Equal (closureOf p found) p)

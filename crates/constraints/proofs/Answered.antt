@@ -12,7 +12,7 @@ use Rattle.constraints.specs.Constraints.{largestWindow}
 use Rattle.constraints.specs.Reading.{later, constraints, horizonOf, question6, question10, question11}
 use Rattle.constraints.specs.Reading.{recordQuestions, questions, refused, given, reading}
 use Rattle.constraints.specs.Answers.{answer}
-use Rattle.constraints.specs.Steps.{Holds, filledFrom, Judged, Scanned, Delivered}
+use Rattle.constraints.specs.Steps.{Holds, filledFrom, ScannedAs, Scanned, Delivered}
 use Rattle.constraints.specs.declared.Reading.{Reading}
 use Rattle.constraints.specs.declared.Reading.the-variants.{Read, HeaderLine, RecordForm, FigureRange, WindowAgain}
 use Rattle.constraints.specs.declared.Reading.the-variants.{NoRecord, ResultLength}
@@ -44,8 +44,8 @@ module _ (t : Bytes) (y₆ : question6 t .asked) where
       ∙ ap (λ r. records (drop (length r + 2) t)) (y₆ .1)
 
   -- What the records were found to be, by the fault that is known.
-  pub scanned : (s : Scan) (f : Fault) → s .fault ≡ f → Scanned (records (drop 19 t)) s → Judged (later t) (s .table) f
-  scanned s f e h = subst (Judged (later t) (s .table)) e (subst (λ rs. Scanned rs s) (sym later-is) h)
+  pub scanned : (s : Scan) (f : Fault) → s .fault ≡ f → Scanned (records (drop 19 t)) s → ScannedAs (later t) (s .table) f
+  scanned s f e h = subst (ScannedAs (later t) (s .table)) e (subst (λ rs. Scanned rs s) (sym later-is) h)
 
 -- The refusals: 6; 7 to 9, of a record; 10 and 11, after all records.
 module _ (t : Bytes) (found : Pair) where

@@ -13,10 +13,10 @@ use Rattle.curves.specs.Questions.{AllYes}
 use Rattle.bounds.specs.Bounds.{figureLimit, Bounded, pairQuestions}
 use Rattle.csv.specs.Text.{Bytes}
 use Rattle.constraints.specs.Reading.{later, constraints, textPair, recordQuestions}
-use Rattle.constraints.specs.Theorems.{GivesPair, givenPair, GivenPasses, KeepsIffConforms}
+use Rattle.constraints.specs.Theorems.{GivesPair, givenPair, GivenPasses, SatisfiesIffConforms}
 use Rattle.constraints.proofs.Said.{gives-asked, given-is-text-pair}
 use Rattle.csv.specs.Records.{Constraint, constraintOf, messageLimit, InRange}
-use Rattle.constraints.specs.Constraints.{named, largestWindow, smallestMost, filled, Keeps}
+use Rattle.constraints.specs.Constraints.{named, largestWindow, smallestMost, filled, Satisfies}
 use Rattle.constraints.proofs.Named.{named-own, named-or-not, in-range, window-largest, largest-some, largest-bound, smallest-bound}
 
 -- ---- the figures of a filled pair
@@ -33,12 +33,12 @@ tick-most s i (suc zero) h = let e : i + 0 ≡ i = omega arith in omega (arith, 
 tick-most s i (suc (suc d)) h = let l = tick-most s i (suc d) (omega arith) in omega (arith, l)
 
 tick-smallest : (s : ℕ → ℕ) (i : ℕ) (cs : List Constraint) → s i ≤ messageLimit
-    → Each (λ c. InRange c × Keeps s c) cs → s i ≤ smallestMost cs
+    → Each (λ c. InRange c × Satisfies s c) cs → s i ≤ smallestMost cs
 tick-smallest s i [] h ks = h
 tick-smallest s i (c ∷ cs) h ks =
     omega (arith, tick-smallest s i cs h (ks .1), tick-most s i (c .window) (ks .0 .0 .some), ks .0 .1 i .1)
 
-small-ticks : (s : ℕ → ℕ) (i : ℕ) (cs : List Constraint) → 1 ≤ length cs → Each (λ c. InRange c × Keeps s c) cs → s i ≤ smallestMost cs
+small-ticks : (s : ℕ → ℕ) (i : ℕ) (cs : List Constraint) → 1 ≤ length cs → Each (λ c. InRange c × Satisfies s c) cs → s i ≤ smallestMost cs
 small-ticks s i [] some ks = absurd (omega arith)
 small-ticks s i (c ∷ cs) some ks =
     let h : s i ≤ messageLimit = omega (arith, tick-most s i (c .window) (ks .0 .0 .some), ks .0 .1 i .1, ks .0 .0 .most) in
@@ -61,7 +61,7 @@ module _ (cs : List Constraint) (d : ℕ) (p : 1 ≤ d) (q : d ≤ largestWindow
   filled-least = table-figure (named (λ c. c .least) 0 cs) (largestWindow cs) d p q
 
 module _ (s : ℕ → ℕ) (cs : List Constraint) (ok : Each InRange cs) where
-  pub keeps-conforms : 1 ≤ length cs → Each (Keeps s) cs → Conforms∞ (filled (largestWindow cs) cs) s
+  pub keeps-conforms : 1 ≤ length cs → Each (Satisfies s) cs → Conforms∞ (filled (largestWindow cs) cs) s
   keeps-conforms some ks i d p q =
       let q′ : d ≤ largestWindow cs = omega (arith, q, filled-horizon cs) in
       let upper = filled-ceiling cs d p q′ in
@@ -75,15 +75,15 @@ module _ (s : ℕ → ℕ) (cs : List Constraint) (ok : Each InRange cs) where
       (λ f.
       let most = f (λ c. c .most) (d * smallestMost cs) in
       let least = f (λ c. c .least) 0 in
-      let small = window-smallest s (smallestMost cs) i d (λ k. small-ticks s k cs some (each-both InRange (Keeps s) cs ok ks)) in
+      let small = window-smallest s (smallestMost cs) i d (λ k. small-ticks s k cs some (each-both InRange (Satisfies s) cs ok ks)) in
       (λ l. omega (arith, l, upper, most, small), λ l. omega (arith, l, lower, least)))
-      (named-or-not (Keeps s) cs d ks)
+      (named-or-not (Satisfies s) cs d ks)
 
   -- Each constraint is the one that is named for its window.
   abbrev pub Own : Type 0
   Own = (what : Constraint → ℕ) (other : ℕ → ℕ) → Each (λ c. named what (other (c .window)) cs (c .window) ≡ what c) cs
 
-  pub conforms-keeps : Own → Conforms∞ (filled (largestWindow cs) cs) s → Each (Keeps s) cs
+  pub conforms-keeps : Own → Conforms∞ (filled (largestWindow cs) cs) s → Each (Satisfies s) cs
   conforms-keeps own h =
       each-map _ _ cs keeps
       (each-both _ _ cs (each-both _ _ cs ok (window-largest cs))
@@ -93,7 +93,7 @@ module _ (s : ℕ → ℕ) (cs : List Constraint) (ok : Each InRange cs) where
           → (InRange c × (c .window ≤ largestWindow cs))
           × ((named (λ e. e .most) (c .window * smallestMost cs) cs (c .window) ≡ c .most)
           × (named (λ e. e .least) 0 cs (c .window) ≡ c .least))
-          → Keeps s c
+          → Satisfies s c
       keeps c k i =
           let d = c .window in
           let p : 1 ≤ d = k .0 .0 .some in
@@ -117,18 +117,18 @@ module _ (t : Bytes) (found : Pair) (g : GivesPair t found) where
   some : 1 ≤ length (constraints t)
   some = omega (arith, length-map (later t) constraintOf, gives-asked t found g .1)
 
-pub keeps-iff-conforms : KeepsIffConforms
-keeps-iff-conforms t found g s = (there, back)
+pub satisfies-iff-conforms : SatisfiesIffConforms
+satisfies-iff-conforms t found g s = (there, back)
   where
     is : givenPair t found ≡ textPair t
     is = given-is-text-pair t found g .1
 
-    there : Each (Keeps (s .counts)) (constraints t) → Conforms∞ (givenPair t found) (s .counts)
+    there : Each (Satisfies (s .counts)) (constraints t) → Conforms∞ (givenPair t found) (s .counts)
     there ks =
         subst (λ (p : Pair). Conforms∞ p (s .counts)) (sym is)
         (keeps-conforms (s .counts) (constraints t) (ranged t found g) (some t found g) ks)
 
-    back : Conforms∞ (givenPair t found) (s .counts) → Each (Keeps (s .counts)) (constraints t)
+    back : Conforms∞ (givenPair t found) (s .counts) → Each (Satisfies (s .counts)) (constraints t)
     back h =
         conforms-keeps (s .counts) (constraints t) (ranged t found g)
         (λ what other. named-own what other [] (later t) (sound t found g))

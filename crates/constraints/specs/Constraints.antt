@@ -38,5 +38,5 @@ filled h cs =
     (table (λ d. named (λ c. c .least) 0 cs d) h)
 
 -- ---- what a constraint asks of an unbounded stream: of every window of its length
-abbrev pub Keeps : (ℕ → ℕ) → Constraint → Type 0
-Keeps s c = (i : ℕ) → (c .least ≤ sum s i (c .window)) × (sum s i (c .window) ≤ c .most)
+abbrev pub Satisfies : (ℕ → ℕ) → Constraint → Type 0
+Satisfies s c = (i : ℕ) → (c .least ≤ sum s i (c .window)) × (sum s i (c .window) ≤ c .most)

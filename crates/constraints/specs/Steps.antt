@@ -53,14 +53,14 @@ filledFrom t h found = pairOf (table (ceilingIn t) h ++ drop h (found .upper)) (
 
 -- ---- the text
 -- What the records rs were found to be.
-abbrev pub Judged : List Bytes → Table → Fault → Type 0
-Judged rs t Sound = AllYes (recordQuestions [] rs) × Holds t (map constraintOf rs)
-Judged rs t Form = FirstNo (recordQuestions [] rs) 7
-Judged rs t Range = FirstNo (recordQuestions [] rs) 8
-Judged rs t Again = FirstNo (recordQuestions [] rs) 9
+abbrev pub ScannedAs : List Bytes → Table → Fault → Type 0
+ScannedAs rs t Sound = AllYes (recordQuestions [] rs) × Holds t (map constraintOf rs)
+ScannedAs rs t Form = FirstNo (recordQuestions [] rs) 7
+ScannedAs rs t Range = FirstNo (recordQuestions [] rs) 8
+ScannedAs rs t Again = FirstNo (recordQuestions [] rs) 9
 
 abbrev pub Scanned : List Bytes → Scan → Type 0
-Scanned rs s = Judged rs (s .table) (s .fault)
+Scanned rs s = ScannedAs rs (s .table) (s .fault)
 
 -- What became of the table of all constraints.
 abbrev pub Delivered : Table → Pair → Pair → Reading → Type 0

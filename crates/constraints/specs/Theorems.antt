@@ -13,7 +13,7 @@ use Rattle.bounds.specs.Bounds.{pairQuestions}
 use Rattle.csv.specs.Text.{Bytes}
 use Rattle.csv.specs.Records.{constraintOf}
 use Rattle.records.specs.Recording.{question7, question8}
-use Rattle.constraints.specs.Constraints.{Keeps}
+use Rattle.constraints.specs.Constraints.{Satisfies}
 use Rattle.constraints.specs.Reading.{later, constraints, horizonOf, textPair, question6, question9}
 use Rattle.constraints.specs.Reading.{questions, refused, reading}
 
@@ -57,7 +57,7 @@ abbrev pub GivenPasses : Type 0
 GivenPasses = (t : Bytes) (found : Pair) → GivesPair t found → AllYes (pairQuestions (givenPair t found))
 
 -- ---- The unbounded streams that conform to it are those that keep every constraint of the text: filling adds nothing.
-abbrev pub KeepsIffConforms : Type 0
-KeepsIffConforms =
+abbrev pub SatisfiesIffConforms : Type 0
+SatisfiesIffConforms =
     (t : Bytes) (found : Pair) → GivesPair t found
-    → (s : Stream) → Each (Keeps (s .counts)) (constraints t) ↔ Conforms∞ (givenPair t found) (s .counts)
+    → (s : Stream) → Each (Satisfies (s .counts)) (constraints t) ↔ Conforms∞ (givenPair t found) (s .counts)

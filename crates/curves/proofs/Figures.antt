@@ -1,6 +1,6 @@
 -- Figures: those of equal curves, of a pair and of a round. A round's are each the best of its candidates, in the order in which
 -- `best` chooses, so that upper and lower are one law. Assumes nothing.
-use Rattle.laws.proofs.Base.{ℕ, zero, suc, _+_, _-_, _≤_, _<_, _≡_, refl, sym, ap, _∙_, List, add-one, arith, length, getD, ext-getD}
+use Rattle.laws.proofs.Base.{ℕ, zero, suc, _+_, _-_, _≤_, _<_, _≡_, refl, sym, ap, _∙_, List, arith, length, getD, ext-getD}
 use mathlib.Core.Path.{subst₂}
 use Rattle.laws.specs.Ranges.{fold, table}
 use Rattle.laws.proofs.Best.{IsBest, fold-holds, fold-first, fold-each}
@@ -18,11 +18,6 @@ pub figure-entry : {N : Type 0} (z : N) (us : List N) (d : ℕ) → 1 ≤ d → 
 unfolding figure
 figure-entry z us zero p = absurd (omega arith)
 figure-entry z us (suc d) p = let e : suc d - 1 ≡ d = omega arith in rw e
-
--- The same by the place.
-pub figure-next : (us : List ℕ) (i : ℕ) → getD us i 0 ≡ figure 0 us (i + 1)
-unfolding figure
-figure-next us i = rw add-one
 
 -- A list is the table of its figures.
 pub table-figures : (us : List ℕ) → table (figure 0 us) (length us) ≡ us

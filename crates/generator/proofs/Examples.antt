@@ -8,7 +8,7 @@ use Rattle.curves.specs.Questions.{ask, result}
 use Rattle.curves.proofs.NextTick.{range-from, range?}
 use Rattle.history.specs.States.{View, legal?}
 use Rattle.generator.specs.Generating.{looking}
-use Rattle.generator.specs.Runs.{sendings}
+use Rattle.generator.specs.Calls.{sendings}
 
 abbrev pair : Pair
 pair = pairOf (2 ∷ 3 ∷ 5 ∷ 5 ∷ []) (0 ∷ 0 ∷ 1 ∷ 3 ∷ [])

@@ -10,7 +10,7 @@ use Rattle.generator.specs.declared.Generator.{Generator}
 use Rattle.generator.specs.declared.Sent.{Sent}
 use Rattle.generator.specs.Generating.{lookQuestions, Bounds, looking, chosen, sentFrom, sending, GeneratorNext}
 use Rattle.generator.specs.Promises.{GeneratorTicked}
-use Rattle.generator.specs.Runs.{viewAfter}
+use Rattle.generator.specs.Calls.{viewAfter}
 
 -- ---- a look and a tick
 abbrev pub bounds : ℕ → ℕ → Bounds

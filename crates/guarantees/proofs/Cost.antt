@@ -4,12 +4,12 @@ use Rattle.curves.specs.Pairs.{Pair}
 use Rattle.curves.specs.Rounds.{whole, Runs}
 use Rattle.curves.proofs.Bound.{runs-within-logarithm}
 use Rattle.closure.specs.Closing.{closing}
-use Rattle.closure.specs.Theorems.{Passes}
+use Rattle.closure.specs.Theorems.{PassesFour}
 use Rattle.closure.proofs.Said.{refused-is, closed-is, cases}
 use Rattle.guarantees.specs.Cost.{AtMostNineRounds, RoundsWithinLogarithm}
 
 -- A refusal tells no rounds, and a closure those that were run.
-rounds-within : (p found : Pair) (m : ℕ) → ((n : ℕ) → Passes p found → Runs whole p n → n ≤ m) → closing p found .rounds ≤ m
+rounds-within : (p found : Pair) (m : ℕ) → ((n : ℕ) → PassesFour p found → Runs whole p n → n ≤ m) → closing p found .rounds ≤ m
 rounds-within p found m few =
     ⊎-elim
     (λ q. omega (arith, ap (λ a. a .rounds) (refused-is p found (q .0) (q .1))))

@@ -14,7 +14,7 @@ use Rattle.curves.proofs.Verdicts.{keeps-newest}
 use Rattle.history.specs.States.{View, Legal}
 use Rattle.history.specs.Opening.{opening}
 use Rattle.generator.specs.Generating.{Bounds, looking, chosen, sentFrom, sending}
-use Rattle.generator.specs.Runs.{viewAfter, sendings, ticked, looked, choicesOf}
+use Rattle.generator.specs.Calls.{viewAfter, sendings, ticked, looked, choicesOf}
 use Rattle.generator.proofs.Said.{bounds, looking-range, looking-none, looking-from, count-limited, chosen-within, sent-from}
 use Rattle.generator.proofs.Said.{generator-next}
 use Rattle.guarantees.specs.Exact.{Passes, Extremes, SendsIffPasses, NoCountIffNonePasses, LookShowsExtremes, SendsConforming}

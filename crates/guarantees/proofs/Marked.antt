@@ -19,7 +19,7 @@ use Rattle.curves.proofs.Arrival.{never-both, crossed?, equal?}
 use Rattle.curves.proofs.Computed.{left?, left, both, same?, runs?, arrives?, arrives-computed, crosses?, crosses-by?, crosses-by}
 use Rattle.curves.proofs.NextTick.{range-from, range?}
 use Rattle.curves.proofs.Verdicts.{inside?, judged?, find, turned-down, verdict?}
-use Rattle.closure.specs.Theorems.{Passes}
+use Rattle.closure.specs.Theorems.{PassesFour}
 use Rattle.closure.proofs.Said.{refused-is, closed-is, fifth}
 use Rattle.csv.specs.Text.{Bytes, records, fields}
 use Rattle.csv.specs.Numbers.{valueAfter}
@@ -32,9 +32,9 @@ use Rattle.history.specs.States.{legal?}
 use Rattle.bounds.specs.Bounds.{pairQuestions}
 use Rattle.history.specs.Opening.{opening, fresh}
 use Rattle.monitor.specs.Monitoring.{Ruling, judged, alreadyFailed, judging}
-use Rattle.monitor.specs.Runs.{rulings}
+use Rattle.monitor.specs.Calls.{rulings}
 use Rattle.generator.specs.Generating.{Bounds, looking, sentFrom}
-use Rattle.generator.specs.Runs.{addedAll}
+use Rattle.generator.specs.Calls.{addedAll}
 use Rattle.guarantees.specs.Exact.{unfailed}
 use Rattle.guarantees.specs.Marked.{publishedTriples, Case, reads, closes, refuses, goesOn, Holds, AllHold, marked, MarkedFigures}
 use Rattle.guarantees.proofs.Monitoring.{conforms-iff-all-pass}
@@ -43,7 +43,7 @@ use Rattle.guarantees.proofs.Monitoring.{conforms-iff-all-pass}
 opens? : Pair → Bool
 opens? p = left? (ask (pairQuestions p))
 
-opens : (p found : Pair) → T (opens? p) → horizon p ≤ length (found .upper) → horizon p ≤ length (found .lower) → Passes p found
+opens : (p found : Pair) → T (opens? p) → horizon p ≤ length (found .upper) → horizon p ≤ length (found .lower) → PassesFour p found
 unfolding opens?
 opens p found t u l =
     let ys = left (ask (pairQuestions p)) t in

@@ -12,7 +12,7 @@ use Rattle.curves.proofs.Verdicts.{verdict?, right-newest}
 use Rattle.history.specs.States.{View, Legal}
 use Rattle.history.specs.Opening.{opening, fresh}
 use Rattle.monitor.specs.Monitoring.{MonitorView, monitorView, Ruling, judged, alreadyFailed, judging}
-use Rattle.monitor.specs.Runs.{monitorAfter, afterTick, afterTicks, rulings, Tick}
+use Rattle.monitor.specs.Calls.{monitorAfter, afterTick, afterTicks, rulings, Tick}
 use Rattle.monitor.proofs.Said.{judging-failed, ruling-is, ruling-right, monitor-next}
 use Rattle.guarantees.specs.Exact.{unfailed, Passes, AllPass, TurnsDownIffOutside, AnswersRight, ConformsIffAllPass}
 use Rattle.guarantees.specs.Exact.{RightOfWholeStream, NothingPassesAfter, TicksAreRulings, EqualMonitorsAgree}

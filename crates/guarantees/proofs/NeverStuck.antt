@@ -17,7 +17,7 @@ use Rattle.history.specs.Opening.{opening, Begun}
 use Rattle.generator.specs.declared.Generator.{Generator}
 use Rattle.generator.specs.Generating.{Bounds, looking, chosen, sentFrom, sending}
 use Rattle.generator.specs.Answers.{sendingReply}
-use Rattle.generator.specs.Runs.{viewAfter, Call, ticked, looked, Calls, countOf, countsSent}
+use Rattle.generator.specs.Calls.{viewAfter, Call, ticked, looked, Calls, countOf, countsSent}
 use Rattle.generator.proofs.Said.{bounds, looking-range, generator-next}
 use Rattle.guarantees.specs.NeverStuck.{OpensOnClosure, NotRefused, NeverStuck, PassesIffHasFuture}
 use Rattle.guarantees.proofs.Held.{heldOf, held-fresh, held-legal, opened-positive}

@@ -17,14 +17,14 @@ use Rattle.monitor.specs.declared.Judgement.{Judgement}
 use Rattle.monitor.specs.Monitoring.{MonitorView, monitorView, monitorViewOf, judged, alreadyFailed, judging}
 use Rattle.monitor.specs.Answers.{verdictReply}
 use Rattle.monitor.specs.Promises.{MonitorTicked}
-use Rattle.monitor.specs.Runs.{afterTicks, rulings, Tick, Ticks}
+use Rattle.monitor.specs.Calls.{afterTicks, rulings, Tick, Ticks}
 use Rattle.generator.specs.declared.Generator.{Generator}
 use Rattle.generator.specs.declared.Admissible.{Admissible}
 use Rattle.generator.specs.declared.Sent.{Sent}
 use Rattle.generator.specs.Generating.{Bounds, looking, sending}
 use Rattle.generator.specs.Answers.{rangeReply, sendingReply}
 use Rattle.generator.specs.Promises.{GeneratorTicked, GeneratorLooked}
-use Rattle.generator.specs.Runs.{sendings, Call, Calls, choicesOf, repliesOf}
+use Rattle.generator.specs.Calls.{sendings, Call, Calls, choicesOf, repliesOf}
 
 -- A monitor that has not failed.
 abbrev pub unfailed : View → MonitorView

@@ -12,7 +12,7 @@ use Rattle.constraints.specs.Theorems.{GivesPair, givenPair}
 use Rattle.history.specs.States.{View}
 use Rattle.history.specs.Opening.{opening, fresh}
 use Rattle.generator.specs.Generating.{Bounds, looking, sentFrom, sending}
-use Rattle.generator.specs.Runs.{addedAll}
+use Rattle.generator.specs.Calls.{addedAll}
 
 -- `3,0,3` and `5,5,9` below the header line.
 unfoldable pub publishedTriples : Bytes

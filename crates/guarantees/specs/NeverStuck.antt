@@ -15,7 +15,7 @@ use Rattle.generator.specs.declared.Opened.{Opened}
 use Rattle.generator.specs.Generating.{Bounds}
 use Rattle.generator.specs.Answers.{rangeReply, sendingReply}
 use Rattle.generator.specs.Promises.{GeneratorOpened}
-use Rattle.generator.specs.Runs.{Call, ticked, looked, Calls, countsSent}
+use Rattle.generator.specs.Calls.{Call, ticked, looked, Calls, countsSent}
 use Rattle.guarantees.specs.Exact.{AllPass}
 
 -- Opening a generator on a closure is not refused.

@@ -8,7 +8,7 @@ use Rattle.curves.specs.Questions.{ask, result, refusal}
 use Rattle.curves.proofs.Verdicts.{inside?, judged?, find, turned-down, verdict?}
 use Rattle.history.specs.States.{View, legal?}
 use Rattle.monitor.specs.Monitoring.{monitorView, judging, judged, alreadyFailed}
-use Rattle.monitor.specs.Runs.{rulings}
+use Rattle.monitor.specs.Calls.{rulings}
 
 abbrev pair : Pair
 pair = pairOf (2 ∷ 3 ∷ 5 ∷ 5 ∷ []) (0 ∷ 0 ∷ 1 ∷ 3 ∷ [])

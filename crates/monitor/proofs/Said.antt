@@ -10,7 +10,7 @@ use Rattle.monitor.specs.declared.Judgement.{Judgement}
 use Rattle.monitor.specs.Monitoring.{MonitorView, monitorView, monitorViewOf, Ruling, judged, alreadyFailed, verdictOn}
 use Rattle.monitor.specs.Monitoring.{judging, MonitorNext}
 use Rattle.monitor.specs.Promises.{MonitorTicked}
-use Rattle.monitor.specs.Runs.{monitorAfter, afterTick}
+use Rattle.monitor.specs.Calls.{monitorAfter, afterTick}
 
 -- ---- a tick
 module _ (w : MonitorView) (x : ℕ) where

@@ -16,12 +16,12 @@ use Rattle.closure.proofs.Given as given
 use Rattle.closure.proofs.Promised as promised
 use Rattle.csv.specs.Text.{Bytes, crlf, header}
 use Rattle.csv.specs.Records.{Constraint, constraintOf}
-use Rattle.constraints.specs.Constraints.{Keeps}
+use Rattle.constraints.specs.Constraints.{Satisfies}
 use Rattle.constraints.proofs.Named.{in-range, largest-bound}
 use Rattle.constraints.specs.Reading as constraints
 use Rattle.constraints.specs.Theorems.{GivesPair}
 use Rattle.constraints.proofs.Said as read
-use Rattle.constraints.proofs.Streams.{given-passes, keeps-iff-conforms}
+use Rattle.constraints.proofs.Streams.{given-passes, satisfies-iff-conforms}
 use Rattle.rendering.specs.Rendering as rendering
 use Rattle.rendering.proofs.Said as rendered
 use Rattle.report.specs.declared.Output.{Output}
@@ -47,7 +47,7 @@ unfolding blank
 blank-lengths = (length-replicate {A = ℕ} maxHorizon 0, length-replicate {A = ℕ} maxHorizon 0)
 
 module _ (p : Pair) where
-  passes : AllYes (pairQuestions p) → closing.Passes p blank
+  passes : AllYes (pairQuestions p) → closing.PassesFour p blank
   passes ok =
       (ok .0, (ok .1 .0, ((omega (arith, ok .0 .1, blank-lengths .0), omega (arith, ok .0 .1, blank-lengths .1)), (ok .1 .1 .0, tt))))
 
@@ -151,21 +151,21 @@ pub refused-iff-no-stream : RefusedIffNoStream
 refused-iff-no-stream t g = (there, back)
   where
     -- Closing the text's pair is refused exactly where no stream keeps the constraints.
-    there : output t ≡ refusal 5 → (s : Stream) → Each (Keeps (s .counts)) (constraints.constraints t) → ⊥
+    there : output t ≡ refusal 5 → (s : Stream) → Each (Satisfies (s .counts)) (constraints.constraints t) → ⊥
     there e s ks =
         ⊎-elim
         (λ r.
-        given.refused-iff-no-stream (pairIn t) blank (passes (pairIn t) (passes-pair t g)) .0 r s (keeps-iff-conforms t blank g s .0 ks))
+        given.refused-iff-no-stream (pairIn t) blank (passes (pairIn t) (passes-pair t g)) .0 r s (satisfies-iff-conforms t blank g s .0 ks))
         (λ c. let o = sym (read-output t g ∙ closed-output (pairIn t) c) ∙ e in
         omega (arith, text-begins (closing.closureOf (pairIn t) blank), ap (λ (x : Bytes). getD x 0 0) o, refusal-begins 5))
         (closes t g)
 
-    back : ((s : Stream) → Each (Keeps (s .counts)) (constraints.constraints t) → ⊥) → output t ≡ refusal 5
+    back : ((s : Stream) → Each (Satisfies (s .counts)) (constraints.constraints t) → ⊥) → output t ≡ refusal 5
     back none =
         read-output t g
         ∙ refused-output (pairIn t)
         (given.refused-iff-no-stream (pairIn t) blank (passes (pairIn t) (passes-pair t g)) .1
-        (λ s h. none s (keeps-iff-conforms t blank g s .1 h)))
+        (λ s h. none s (satisfies-iff-conforms t blank g s .1 h)))
 
 pub output-fits : OutputFits
 output-fits t =

@@ -9,7 +9,7 @@ use Rattle.curves.specs.Pairs.{Pair}
 use Rattle.curves.specs.Questions.{FirstNo}
 use Rattle.closure.specs.Theorems.{GivesClosure, closureOf}
 use Rattle.csv.specs.Text.{Bytes}
-use Rattle.constraints.specs.Constraints.{Keeps}
+use Rattle.constraints.specs.Constraints.{Satisfies}
 use Rattle.constraints.specs.Reading.{constraints, questions}
 use Rattle.constraints.specs.Theorems.{GivesPair, givenPair}
 use Rattle.rendering.specs.Rendering.{longest, textOf, refusal}
@@ -31,7 +31,7 @@ OutputIs =
 -- 5 exactly where no unbounded stream keeps the constraints of the text.
 abbrev pub RefusedIffNoStream : Type 0
 RefusedIffNoStream =
-    (t : Bytes) → GivesPair t blank → (output t ≡ refusal 5) ↔ ((s : Stream) → Each (Keeps (s .counts)) (constraints t) → ⊥)
+    (t : Bytes) → GivesPair t blank → (output t ≡ refusal 5) ↔ ((s : Stream) → Each (Satisfies (s .counts)) (constraints t) → ⊥)
 
 -- The output fits into what `report` gives back.
 abbrev pub OutputFits : Type 0

@@ -6,8 +6,8 @@ use Rattle.curves.specs.Pairs.{Pair}
 use Rattle.curves.specs.Questions.{Reply, result, refusal}
 use Rattle.history.specs.Opening.{opening, fresh}
 use Rattle.monitor.specs.Monitoring.{monitorView}
-use Rattle.monitor.specs.Runs.{rulings}
-use Rattle.generator.specs.Runs.{sendings}
+use Rattle.monitor.specs.Calls.{rulings}
+use Rattle.generator.specs.Calls.{sendings}
 use Rattle.scripts.specs.Codes.{rulingCode, sendingCode}
 
 pub record Answered : Type 0 where

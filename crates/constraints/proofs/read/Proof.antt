@@ -4,7 +4,7 @@ use Rattle.laws.proofs.Base.{_≡_, sym, _∙_, arith, needs}
 use Rattle.laws.proofs.Tests.{told-yes, told-no}
 use Rattle.csv.specs.Text.{Bytes, header}
 use Rattle.constraints.specs.Reading.{later, question6}
-use Rattle.constraints.specs.Steps.{Judged}
+use Rattle.constraints.specs.Steps.{ScannedAs}
 use Rattle.constraints.specs.declared.Fault.{Fault}
 use Rattle.constraints.specs.declared.Fault.the-variants.{Sound, Form, Range, Again}
 use Rattle.constraints.proofs.Answered.{no-6, scanned, no-record, bounded, delivered-is}
@@ -34,7 +34,7 @@ asked e =
 
 -- What the records after it were found to be.
 of-records : (k : tie.After-read-records) (f : Fault) → k .read-records .result .fault ≡ f
-    → Judged (later (text (k .before))) (k .read-records .result .table) f
+    → ScannedAs (later (text (k .before))) (k .read-records .result .table) f
 of-records k f e = scanned _ (asked (k .before)) (k .read-records .result) f e (k .read-records .ensures)
 
 deliver-requires : tie.Need-deliver-requires

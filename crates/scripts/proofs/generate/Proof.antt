@@ -3,7 +3,7 @@
 use Rattle.laws.proofs.Base.{ℕ, _-_, _≤_, _≡_, refl, ap, _∙_, List, map, arith, needs, length}
 use Rattle.history.specs.States.{View, viewOf}
 use Rattle.generator.specs.Generating.{sending}
-use Rattle.generator.specs.Runs.{viewAfter, sendings}
+use Rattle.generator.specs.Calls.{viewAfter, sendings}
 use Rattle.generator.proofs.Said.{generator-next}
 use Rattle.scripts.specs.Codes.{sendingCode}
 use Rattle.scripts.proofs.Scripts.{Ran, ran-none, ran-more, ran-all}

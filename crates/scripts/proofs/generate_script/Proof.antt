@@ -2,7 +2,7 @@
 -- Assumes nothing.
 use Rattle.laws.proofs.Base.{refl, map, needs}
 use Rattle.curves.specs.Pairs.{pairOf}
-use Rattle.generator.specs.Runs.{sendings}
+use Rattle.generator.specs.Calls.{sendings}
 use Rattle.scripts.specs.Codes.{sendingCode}
 use Rattle.scripts.proofs.Coded.{run-opened, run-refused}
 use Rattle.scripts.proofs.generate_script.Statement.{statement}

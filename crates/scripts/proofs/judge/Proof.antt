@@ -2,7 +2,7 @@
 -- Assumes nothing.
 use Rattle.laws.proofs.Base.{ℕ, _-_, _≤_, _≡_, refl, ap, _∙_, List, map, arith, needs, length}
 use Rattle.monitor.specs.Monitoring.{MonitorView, monitorViewOf, judging}
-use Rattle.monitor.specs.Runs.{afterTick, rulings}
+use Rattle.monitor.specs.Calls.{afterTick, rulings}
 use Rattle.monitor.proofs.Said.{monitor-next}
 use Rattle.scripts.specs.Codes.{rulingCode}
 use Rattle.scripts.proofs.Coded.{names-window}

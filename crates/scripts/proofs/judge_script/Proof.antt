@@ -3,7 +3,7 @@
 use Rattle.laws.proofs.Base.{refl, ap, _∙_, false, map, needs}
 use Rattle.curves.specs.Pairs.{pairOf}
 use Rattle.monitor.specs.Monitoring.{monitorView}
-use Rattle.monitor.specs.Runs.{rulings}
+use Rattle.monitor.specs.Calls.{rulings}
 use Rattle.history.specs.States.{viewOf}
 use Rattle.scripts.specs.Codes.{rulingCode}
 use Rattle.scripts.proofs.Coded.{run-opened, run-refused}
