@@ -1,6 +1,7 @@
 -- Laws over plain variables that the proofs about a history cite.
 -- Assumes nothing.
-use Rattle.laws.proofs.Base.{Bool, length-replicate, ℕ, suc, _+_, _-_, _≤_, _<_, _≡_, refl, sym, ap, _∙_, subst, subst⁻¹, List, [], _∷_, _++_, add-one, arith}
+use Rattle.laws.proofs.Base.{Bool, length-replicate, ℕ, suc, _+_, _-_, _≤_, _<_, _≡_, refl, sym, ap, _∙_, subst, subst⁻¹, List, [], _∷_}
+use Rattle.laws.proofs.Base.{_++_, add-one, arith}
 use Rattle.laws.proofs.Base.{length, getD, set, take, drop, replicate, length-append, length-drop, length-set, length-take-le, ext-getD}
 use Rattle.laws.proofs.Base.{getD-drop, take-at}
 use types.Run.{OneOf, miss}

@@ -111,8 +111,8 @@ fn opening_for(asked: Asked) -> Opening
 // The history that an opening hands out.
 fn begin(answer: Opening, ceilings: &[u32], leasts: &[u32]) -> History
     requires { ⌜ openingReply answer ≡ opening (pairOf (now ceilings) (now leasts)) ⌝ }
-    ensures { λ r. ⌜ Begun (opening (pairOf (now (ceilings .entry)) (now (leasts .entry)))) (pairOf (now (ceilings .entry)) (now (leasts .entry)))
-        r ⌝ }
+    ensures { λ r. ⌜ Begun (opening (pairOf (now (ceilings .entry)) (now (leasts .entry))))
+        (pairOf (now (ceilings .entry)) (now (leasts .entry))) r ⌝ }
 {
     match answer {
         Opening::Opened => unbegun(ceilings, leasts),

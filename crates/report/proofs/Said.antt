@@ -155,7 +155,8 @@ refused-iff-no-stream t g = (there, back)
     there e s ks =
         ⊎-elim
         (λ r.
-        given.refused-iff-no-stream (pairIn t) blank (passes (pairIn t) (passes-pair t g)) .0 r s (satisfies-iff-conforms t blank g s .0 ks))
+        given.refused-iff-no-stream (pairIn t) blank (passes (pairIn t) (passes-pair t g)) .0 r s
+        (satisfies-iff-conforms t blank g s .0 ks))
         (λ c. let o = sym (read-output t g ∙ closed-output (pairIn t) c) ∙ e in
         omega (arith, text-begins (closing.closureOf (pairIn t) blank), ap (λ (x : Bytes). getD x 0 0) o, refusal-begins 5))
         (closes t g)

@@ -52,7 +52,8 @@ pub fn ready(upper: &[u32], lower: &[u32], new_upper: &[u32], new_lower: &[u32])
 // The new figures, window by window.
 fn fill(upper: &[u32], lower: &[u32], new_upper: &mut [u32], new_lower: &mut [u32])
     requires { ⌜ Ready (pairOf (now upper) (now lower)) (pairOf (now «new_upper») (now «new_lower»)) ⌝ }
-    ensures { λ _. ⌜ pairOf (now («new_upper» .exit)) (now («new_lower» .exit)) ≡ round cutOff (pairOf (now (upper .entry)) (now (lower .entry))) ⌝ }
+    ensures { λ _. ⌜ pairOf (now («new_upper» .exit)) (now («new_lower» .exit))
+        ≡ round cutOff (pairOf (now (upper .entry)) (now (lower .entry))) ⌝ }
 {
     let mut i = 0;
     while i < upper.len() {

@@ -7,7 +7,9 @@ use Rattle.report.proofs.refused.Statement.{statement}
 use Rattle.report.proofs.refused.Tie as tie
 
 returns : tie.Need-returns
-returns c = let told = c .before .render-refusal in text-shown (told .result) _ (c .shown .ensures) (refusal (c .before .before .args .number)) (told .ensures)
+returns c =
+    let told = c .before .render-refusal in
+    text-shown (told .result) _ (c .shown .ensures) (refusal (c .before .before .args .number)) (told .ensures)
 
 pub refused-spec : {M : Type 1} → statement M
 refused-spec = tie.close (tie.spec (λ c κs. search needs) (λ c κs. search needs) returns)

@@ -26,7 +26,9 @@ slice-aggregate-report-pair-2 c = sym (length-take-le _ _ (lowers (c .before .be
 
 report-pair-requires : tie.Need-report-pair-requires
 report-pair-requires c κs =
-    let k = c .before .before in omega (arith, length-take-le (k .reading-horizon .result) (start k .args .ceilings .now) (uppers k), k .reading-horizon .ensures, start k .pre)
+    let k = c .before .before in
+    let part = length-take-le (k .reading-horizon .result) (start k .args .ceilings .now) (uppers k) in
+    omega (arith, part, k .reading-horizon .ensures, start k .pre)
 
 returns-2 : tie.Need-returns-2
 returns-2 c =

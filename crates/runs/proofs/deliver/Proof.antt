@@ -10,7 +10,9 @@ returns : tie.Need-returns
 returns c =
     let copied = c .before .before .before .before .before .before in
     let stop = copied .before .before .before .stop in
-    delivered _ _ _ _ _ (stop .given .1) (same-pairs _ _ _ _ (whole (copied .copy .ensures) (search needs)) (whole (c .before .before .copy2 .ensures) (search needs)))
+    let uppers = whole (copied .copy .ensures) (search needs) in
+    let lowers = whole (c .before .before .copy2 .ensures) (search needs) in
+    delivered _ _ _ _ _ (stop .given .1) (same-pairs _ _ _ _ uppers lowers)
 
 returns-2 : tie.Need-returns-2
 returns-2 c = undelivered _ _ _ _ _ (c .before .stop2 .given .1) refl
