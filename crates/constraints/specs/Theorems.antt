@@ -56,7 +56,7 @@ GivenIsTextPair =
 abbrev pub GivenPasses : Type 0
 GivenPasses = (t : Bytes) (found : Pair) → GivesPair t found → AllYes (pairQuestions (givenPair t found))
 
--- ---- The unbounded streams that conform to it are those that keep every constraint of the text: filling adds nothing.
+-- ---- The unbounded streams that conform to it are those that satisfy every constraint of the text: filling adds nothing.
 abbrev pub SatisfiesIffConforms : Type 0
 SatisfiesIffConforms =
     (t : Bytes) (found : Pair) → GivesPair t found

@@ -150,7 +150,7 @@ refusal-begins n = refl
 pub refused-iff-no-stream : RefusedIffNoStream
 refused-iff-no-stream t g = (there, back)
   where
-    -- Closing the text's pair is refused exactly where no stream keeps the constraints.
+    -- Closing the text's pair is refused exactly where no stream satisfies the constraints.
     there : output t ≡ refusal 5 → (s : Stream) → Each (Satisfies (s .counts)) (constraints.constraints t) → ⊥
     there e s ks =
         ⊎-elim

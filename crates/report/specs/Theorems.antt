@@ -28,7 +28,7 @@ OutputIs =
     ⊎ (GivesPair t blank × (output t ≡ refusal 5))
     ⊎ ((n : ℕ) × (6 ≤ n) × (n ≤ 10) × FirstNo (questions t blank) n × (output t ≡ refusal n))
 
--- 5 exactly where no unbounded stream keeps the constraints of the text.
+-- 5 exactly where no unbounded stream satisfies the constraints of the text.
 abbrev pub RefusedIffNoStream : Type 0
 RefusedIffNoStream =
     (t : Bytes) → GivesPair t blank → (output t ≡ refusal 5) ↔ ((s : Stream) → Each (Satisfies (s .counts)) (constraints t) → ⊥)
