@@ -1,4 +1,4 @@
--- The limits of a pair (document 01, questions 1, 2 and 4): what every operation on a pair asks first.
+-- The limits of a pair (document 01, questions 1, 2 and 4): what every operation on a pair asks first, and room for its results.
 use Prim.Native.Nat.{ℕ, _≤_}
 use mathlib.Core.Path.{_≡_}
 use mathlib.Core.List.{List, [], _∷_}
@@ -49,3 +49,10 @@ question4 p =
 -- Those of an operation that lends no lists for results.
 abbrev pub pairQuestions : Pair → List Question
 pairQuestions p = question1 p ∷ question2 p ∷ question4 p ∷ []
+
+-- Two lists that are lent for results, as found, have room for a pair with the horizon h (questions 3 and 11).
+abbrev pub RoomFor : ℕ → Pair → Type 0
+RoomFor h found = (h ≤ length (found .upper)) × (h ≤ length (found .lower))
+
+abbrev pub roomFor? : (h : ℕ) (found : Pair) → Dec (RoomFor h found)
+roomFor? h found = Dec·and (decLe h (length (found .upper))) (decLe h (length (found .lower)))

@@ -1,25 +1,18 @@
 -- Closing (document 01, "The closure" and questions 1 to 5): two lists in, two lists lent for results. Questions 1, 2 and 4 are those of
 -- every operation on a pair.
-use Prim.Native.Nat.{ℕ, _≤_}
+use Prim.Native.Nat.{ℕ}
 use mathlib.Core.List.{List, [], _∷_, _++_}
-use mathlib.Core.Logic.{Dec·and}
-use native.Mathlib.Decide.{decLe}
-use lib.ListN.{length, drop}
+use lib.ListN.{drop}
 use Rattle.laws.specs.Ranges.{table}
 use Rattle.curves.specs.Pairs.{Pair, horizon, ceiling, least}
 use Rattle.curves.specs.Questions.{Question, answerTo}
 use Rattle.curves.specs.Theorems.{Closes}
 use Rattle.curves.proofs.Arrival.{closes?}
-use Rattle.bounds.specs.Bounds.{question1, question2, question4}
+use Rattle.bounds.specs.Bounds.{question1, question2, question4, RoomFor, roomFor?}
 
--- 3. Neither result list, as found, has fewer.
+-- 3. Each result list has room for the closure.
 abbrev pub question3 : Pair → Pair → Question
-question3 p found =
-    record {
-      number = 3;
-      asked = (horizon p ≤ length (found .upper)) × (horizon p ≤ length (found .lower));
-      answered = Dec·and (decLe (horizon p) (length (found .upper))) (decLe (horizon p) (length (found .lower)));
-    }
+question3 p found = record { number = 3; asked = RoomFor (horizon p) found; answered = roomFor? (horizon p) found }
 
 -- 5. The rounds arrive at a closure. They do or they do not: theorem 1.
 abbrev pub question5 : Pair → Question

@@ -9,6 +9,7 @@ use lib.ListN.{length, getD, drop}
 use Rattle.laws.proofs.Tests.{each?, equal-lists?}
 use Rattle.curves.specs.Pairs.{Pair}
 use Rattle.curves.specs.Questions.{Question, answerTo}
+use Rattle.bounds.specs.Bounds.{RoomFor, roomFor?}
 use Rattle.csv.specs.Text.{Bytes, header, records}
 use Rattle.csv.specs.Records.{Constraint, constraintOf}
 use Rattle.constraints.specs.Constraints.{New, largestWindow, filled}
@@ -60,14 +61,9 @@ recordQuestions earlier (r ∷ rs) =
 abbrev pub question10 : Bytes → Question
 question10 t = record { number = 10; asked = 1 ≤ length (later t); answered = decLe 1 (length (later t)) }
 
--- 11. Neither result list, as found, is shorter than the horizon.
+-- 11. Each result list has room for the text's pair.
 abbrev pub question11 : Bytes → Pair → Question
-question11 t found =
-    record {
-      number = 11;
-      asked = (horizonOf t ≤ length (found .upper)) × (horizonOf t ≤ length (found .lower));
-      answered = Dec·and (decLe (horizonOf t) (length (found .upper))) (decLe (horizonOf t) (length (found .lower)));
-    }
+question11 t found = record { number = 11; asked = RoomFor (horizonOf t) found; answered = roomFor? (horizonOf t) found }
 
 abbrev pub questions : Bytes → Pair → List Question
 questions t found = (question6 t ∷ recordQuestions [] (later t)) ++ (question10 t ∷ question11 t found ∷ [])
