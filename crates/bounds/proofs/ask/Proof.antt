@@ -6,15 +6,6 @@ use Rattle.bounds.specs.Bounds.{Bounded}
 use Rattle.bounds.proofs.ask.Statement.{statement}
 use Rattle.bounds.proofs.ask.Tie as tie
 
-returns : tie.Need-returns
-returns c = inl (refl, λ y. omega (arith, y .0, c .if1 .taken))
-
-returns-2 : tie.Need-returns-2
-returns-2 c = inl (refl, λ y. omega (arith, y .1, c .if2 .taken))
-
-returns-3 : tie.Need-returns-3
-returns-3 c = inr ((omega arith, omega arith), inl (refl, c .if3 .taken))
-
 returns-4 : tie.Need-returns-4
 returns-4 c =
     let told = c .before .within-limit in
@@ -39,9 +30,9 @@ pub ask-spec : {M : Type 1} → statement M
 ask-spec =
     tie.close
     (tie.spec
-    returns
-    returns-2
-    returns-3
+    (λ c. inl (refl, λ y. omega (arith, y .0, c .if1 .taken)))
+    (λ c. inl (refl, λ y. omega (arith, y .1, c .if2 .taken)))
+    (λ c. inr ((omega arith, omega arith), inl (refl, c .if3 .taken)))
     (λ c κs. search needs)
     returns-4
     (λ c κs. search needs)

@@ -14,9 +14,6 @@ Inv-loop figures within₀ i₀ within i = (i ≤ length figures) × Tells withi
 abbrev μ-loop : tie.MeasureT-loop
 μ-loop figures within₀ i₀ within i = length figures - i
 
-loop-holds : tie.Need-loop-holds Inv-loop μ-loop
-loop-holds c = (search needs, below-none _)
-
 loop-again : tie.Need-loop-again Inv-loop μ-loop
 loop-again c =
     let us = c .before .before .before .args .figures .now in
@@ -34,7 +31,7 @@ within-limit-spec =
     (tie.spec
     Inv-loop
     μ-loop
-    loop-holds
+    (λ c. (search needs, below-none _))
     (λ c. search needs)
     (λ c. search needs)
     (λ c. search needs)

@@ -8,21 +8,6 @@ use Rattle.closure.proofs.Answered.{no-1, no-2, no-3, ended-is}
 use Rattle.closure.proofs.close.Statement.{statement}
 use Rattle.closure.proofs.close.Tie as tie
 
-returns : tie.Need-returns
-returns c = no-1 _ _ (λ y. omega (arith, y, c .if1 .taken))
-
-returns-2 : tie.Need-returns-2
-returns-2 c = no-1 _ _ (λ y. omega (arith, y, c .if2 .taken))
-
-returns-3 : tie.Need-returns-3
-returns-3 c = no-2 _ _ (omega arith) (λ y. c .if3 .taken y)
-
-returns-4 : tie.Need-returns-4
-returns-4 c = no-3 _ _ (omega arith) (omega arith) (λ y. omega (arith, y, c .if4 .taken))
-
-returns-5 : tie.Need-returns-5
-returns-5 c = no-3 _ _ (omega arith) (omega arith) (λ y. omega (arith, y, c .if5 .taken))
-
 -- Where questions 1 to 3 are answered yes: the function's start, and how long the parts of the result lists are.
 abbrev start : tie.Else5 → tie.Start
 start e = e .before .before .before .before .before .before .before .before .before
@@ -39,12 +24,6 @@ room e = (omega arith, omega arith)
 part : (e : tie.Else5) (xs : List ℕ) → horizon (given (start e)) ≤ length xs
     → horizon (given (start e)) ≡ length (take (horizon (given (start e))) xs)
 part e xs h = sym (length-take-le (horizon (given (start e))) xs h)
-
-slice-aggregate-run : tie.Need-slice-aggregate-run
-slice-aggregate-run c = part (c .before) _ (room (c .before) .0)
-
-slice-aggregate-run-2 : tie.Need-slice-aggregate-run-2
-slice-aggregate-run-2 c = part (c .before .before) _ (room (c .before .before) .1)
 
 same-length : tie.Need-same-length
 same-length c =
@@ -72,15 +51,15 @@ pub close-spec : {M : Type 1} → statement M
 close-spec =
     tie.close
     (tie.spec
-    returns
-    returns-2
-    returns-3
-    returns-4
-    returns-5
+    (λ c. no-1 _ _ (λ y. omega (arith, y, c .if1 .taken)))
+    (λ c. no-1 _ _ (λ y. omega (arith, y, c .if2 .taken)))
+    (λ c. no-2 _ _ (omega arith) (λ y. c .if3 .taken y))
+    (λ c. no-3 _ _ (omega arith) (omega arith) (λ y. omega (arith, y, c .if4 .taken)))
+    (λ c. no-3 _ _ (omega arith) (omega arith) (λ y. omega (arith, y, c .if5 .taken)))
     (λ c. search needs)
-    slice-aggregate-run
+    (λ c. part (c .before) _ (room (c .before) .0))
     (λ c. search needs)
-    slice-aggregate-run-2
+    (λ c. part (c .before .before) _ (room (c .before .before) .1))
     (λ c κs. search needs)
     (λ c κs. search needs)
     same-length

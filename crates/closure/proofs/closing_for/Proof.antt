@@ -5,9 +5,13 @@ use Rattle.closure.specs.Steps.{closingFor}
 use Rattle.closure.proofs.closing_for.Statement.{statement}
 use Rattle.closure.proofs.closing_for.Tie as tie
 
-returns : tie.Need-returns
-returns c = sym (ap closingFor (c .before .ending .given .1))
-
 pub closing-for-spec : {M : Type 1} → statement M
 closing-for-spec =
-    tie.close (tie.spec (λ c. search needs) (λ c. search needs) (λ c. search needs) returns (λ c. search needs) (λ c. search needs))
+    tie.close
+    (tie.spec
+    (λ c. search needs)
+    (λ c. search needs)
+    (λ c. search needs)
+    (λ c. sym (ap closingFor (c .before .ending .given .1)))
+    (λ c. search needs)
+    (λ c. search needs))

@@ -6,12 +6,6 @@ use Rattle.exports.proofs.Copied.{report-into}
 use Rattle.exports.proofs.calgedze_report.Statement.{statement}
 use Rattle.exports.proofs.calgedze_report.Tie as tie
 
-array-share-prefix-bytes : tie.Need-array-share-prefix-bytes
-array-share-prefix-bytes c = reported-within _ _ (c .before .report .ensures)
-
-slice-aggregate-copy : tie.Need-slice-aggregate-copy
-slice-aggregate-copy c = reported-part _ _ (c .before .before .report .ensures)
-
 returns : tie.Need-returns
 returns c =
     let copied = c .before .before in
@@ -24,8 +18,8 @@ calgedze-report-spec =
     tie.close
     (tie.spec
     (λ c κs. search needs)
-    array-share-prefix-bytes
-    slice-aggregate-copy
+    (λ c. reported-within _ _ (c .before .report .ensures))
+    (λ c. reported-part _ _ (c .before .before .report .ensures))
     (λ c κs. search needs)
     (λ c. search needs)
     returns)

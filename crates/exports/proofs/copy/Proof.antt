@@ -11,9 +11,6 @@ Inv-loop from to₀ i₀ to i = (i ≤ length from) × (i ≤ length to₀) × (
 abbrev μ-loop : tie.MeasureT-loop
 μ-loop from to₀ i₀ to i = length from - i
 
-loop-holds : tie.Need-loop-holds Inv-loop μ-loop
-loop-holds c = (omega arith, omega arith, refl, refl)
-
 returns : tie.Need-returns Inv-loop μ-loop
 returns c =
     let end = c .before .before .loop .inv in
@@ -39,7 +36,7 @@ copy-spec =
     (tie.spec
     Inv-loop
     μ-loop
-    loop-holds
+    (λ c. (omega arith, omega arith, refl, refl))
     (λ c. search needs)
     returns
     (λ c. search needs)

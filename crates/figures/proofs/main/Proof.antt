@@ -13,12 +13,6 @@ use Rattle.figures.proofs.main.Tie as tie
 fits : (k : tie.After-known-told) → k .before .n .given .0 .0 ≤ length (k .before .before .before .before .read-input .last .1 .0)
 fits k = subst (Fits _) (k .before .n .given .1) (k .before .before .before .before .read-input .ensures)
 
-array-share-prefix-text : tie.Need-array-share-prefix-text
-array-share-prefix-text c = fits c
-
-slice-aggregate-write-report : tie.Need-slice-aggregate-write-report
-slice-aggregate-write-report c = sym (length-take-le _ _ (fits (c .before)))
-
 pub main-spec : {M : Type 1} → statement M
 main-spec =
     tie.close
@@ -26,8 +20,8 @@ main-spec =
     (λ c. search needs)
     (λ c κs. search needs)
     (λ c. search needs)
-    array-share-prefix-text
-    slice-aggregate-write-report
+    (λ c. fits c)
+    (λ c. sym (length-take-le _ _ (fits (c .before))))
     (λ c κs. search needs)
     (λ c. search needs)
     (λ c. search needs)

@@ -5,19 +5,13 @@ use Rattle.report.proofs.Said.{reported-within, reported-part}
 use Rattle.figures.proofs.write_report.Statement.{statement}
 use Rattle.figures.proofs.write_report.Tie as tie
 
-array-share-prefix-bytes : tie.Need-array-share-prefix-bytes
-array-share-prefix-bytes c = reported-within _ _ (c .before .report .ensures)
-
-slice-aggregate-write-all : tie.Need-slice-aggregate-write-all
-slice-aggregate-write-all c = reported-part _ _ (c .before .before .report .ensures)
-
 pub write-report-spec : {M : Type 1} → statement M
 write-report-spec =
     tie.close
     (tie.spec
     (λ c κs. search needs)
-    array-share-prefix-bytes
-    slice-aggregate-write-all
+    (λ c. reported-within _ _ (c .before .report .ensures))
+    (λ c. reported-part _ _ (c .before .before .report .ensures))
     (λ c κs. search needs)
     (λ c. search needs)
     (λ c κs. search needs)

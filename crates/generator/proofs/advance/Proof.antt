@@ -24,13 +24,7 @@ For generator next s = GeneratorNext (sendingReply s) generator next
 returns : tie.Need-returns
 returns c = subst⁻¹ (For _ _) (c .before .before .sending .given .1) (c .push .ensures .tick (legal-room _ (legal c)))
 
-returns-2 : tie.Need-returns-2
-returns-2 c = subst⁻¹ (For _ _) (c .enum-told .given .1) refl
-
-returns-3 : tie.Need-returns-3
-returns-3 c = subst⁻¹ (For _ _) (c .enum-told2 .given .1) refl
-
 pub advance-spec : {M : Type 1} → statement M
 advance-spec =
     tie.close
-    (tie.spec (λ c. search needs) (λ c κs. search needs) (λ c. search needs) (λ c. search needs) returns returns-2 returns-3)
+    (tie.spec (λ c. search needs) (λ c κs. search needs) (λ c. search needs) (λ c. search needs) returns (λ c. subst⁻¹ (For _ _) (c .enum-told .given .1) refl) (λ c. subst⁻¹ (For _ _) (c .enum-told2 .given .1) refl))

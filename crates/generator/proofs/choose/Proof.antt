@@ -18,15 +18,6 @@ start c = c .before .before .before
 known : (c : tie.After-known-told) → ChoosesWhere (Range (c .before .admissible .given .0 .0) (c .before .admissible .given .0 .1 .0))
 known c = subst ChoosesWhere (c .before .admissible .given .1) (start c .pre)
 
-sub-t6 : tie.Need-sub-t6
-sub-t6 c = known c .0
-
-add-t7 : tie.Need-add-t7
-add-t7 c = omega (arith, known c .0, known c .1)
-
-add-t9 : tie.Need-add-t9
-add-t9 c = omega (arith, known c .1, chosen-below _ _ (start c .args .choice) (known c .0))
-
 -- What is promised, for what the look has shown.
 abbrev For : ℕ → Reply ℕ → Admissible → Type 0
 For choice reply a = reply ≡ sentFrom (rangeReply a) choice
@@ -42,10 +33,10 @@ choose-spec =
     tie.close
     (tie.spec
     (λ c. search needs)
-    sub-t6
-    add-t7
+    (λ c. known c .0)
+    (λ c. omega (arith, known c .0, known c .1))
     (λ c. search needs)
-    add-t9
+    (λ c. omega (arith, known c .1, chosen-below _ _ (start c .args .choice) (known c .0)))
     (λ c. search needs)
     (λ c. search needs)
     returns

@@ -13,15 +13,6 @@ Inv-loop upper lower ticks held lo₀ end₀ sum₀ d₀ lo end sum d =
 abbrev μ-loop : tie.MeasureT-loop
 μ-loop upper lower ticks held lo₀ end₀ sum₀ d₀ lo end sum d = length ticks - d
 
-cast-lo : tie.Need-cast-lo Inv-loop μ-loop
-cast-lo c = omega (arith, c .shared-slice-known4 .given 0)
-
-cast-end : tie.Need-cast-end Inv-loop μ-loop
-cast-end c = omega (arith, c .shared-slice-known5 .given 0)
-
-add-end : tie.Need-add-end Inv-loop μ-loop
-add-end c = omega (arith, c .shared-slice-known5 .given 0)
-
 loop-holds : tie.Need-loop-holds Inv-loop μ-loop
 loop-holds c =
     (omega arith, narrowed-once _ _ _ (c .before .before .before .before .before .pre))
@@ -36,15 +27,6 @@ start a = head a .before .before .before .before .before .before
 added : (a : tie.After-shared-slice-known6 Inv-loop μ-loop)
     → getD (start a .args .ticks .now) (length (start a .args .ticks .now) - 1 - head a .loop .d) 0 ≤ countLimit
 added a = omega (arith, a .shared-slice-known6 .given (length (start a .args .ticks .now) - 1 - head a .loop .d))
-
-cast-sum : tie.Need-cast-sum Inv-loop μ-loop
-cast-sum c = omega (arith, added c)
-
-add-sum : tie.Need-add-sum Inv-loop μ-loop
-add-sum c = omega (arith, added c, start c .pre .within, start c .pre .fewer)
-
-cast-difference : tie.Need-cast-difference Inv-loop μ-loop
-cast-difference c = omega (arith, c .shared-slice-known7 .given (head (c .before) .loop .d + 1))
 
 cast-difference-2 : tie.Need-cast-difference-2 Inv-loop μ-loop
 cast-difference-2 c = omega (arith, c .shared-slice-known8 .given (head (c .before .before .before .before) .loop .d + 1))
@@ -61,9 +43,6 @@ loop-again c =
           (wider .before .difference .ensures) (c .before .difference2 .ensures) (wider .larger .ensures) (c .smaller .ensures),
     )
 
-returns : tie.Need-returns Inv-loop μ-loop
-returns c = narrowed-whole _ _ _ _ _ _ _ (c .before .loop .inv .1) (omega arith)
-
 pub limit-spec : {M : Type 1} → statement M
 limit-spec =
     tie.close
@@ -71,21 +50,21 @@ limit-spec =
     Inv-loop
     μ-loop
     (λ c. search needs)
-    cast-lo
+    (λ c. omega (arith, c .shared-slice-known4 .given 0))
     (λ c. search needs)
-    cast-end
-    add-end
+    (λ c. omega (arith, c .shared-slice-known5 .given 0))
+    (λ c. omega (arith, c .shared-slice-known5 .given 0))
     loop-holds
     (λ c. search needs)
     (λ c. search needs)
     (λ c. search needs)
     (λ c. search needs)
-    cast-sum
-    add-sum
+    (λ c. omega (arith, added c))
+    (λ c. omega (arith, added c, start c .pre .within, start c .pre .fewer))
     (λ c. search needs)
     (λ c. search needs)
     (λ c. search needs)
-    cast-difference
+    (λ c. omega (arith, c .shared-slice-known7 .given (head (c .before) .loop .d + 1)))
     (λ c κs. search needs)
     (λ c κs. search needs)
     (λ c. search needs)
@@ -96,4 +75,4 @@ limit-spec =
     (λ c κs. search needs)
     (λ c. search needs)
     loop-again
-    returns)
+    (λ c. narrowed-whole _ _ _ _ _ _ _ (c .before .loop .inv .1) (omega arith)))

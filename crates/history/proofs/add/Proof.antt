@@ -8,9 +8,6 @@ use Rattle.history.proofs.add.Tie as tie
 mul-ticks : tie.Need-mul-ticks
 mul-ticks c = let r = room-held _ (c .before .before .before .pre) in search needs
 
-array-write-ticks : tie.Need-array-write-ticks
-array-write-ticks c = room-held _ (c .before .before .before .pre)
-
 add-if1 : tie.Need-add-if1
 add-if1 c = let r = room-held _ (c .before .before .before .pre) in search needs
 
@@ -19,9 +16,6 @@ returns c =
     let start = c .before .before .before .before in
     let l : length (start .args .history .ticks) ≡ 256 = search needs in
     added-last _ _ (omega (arith, room-held _ (start .pre))) (omega arith)
-
-shifted-requires : tie.Need-shifted-requires
-shifted-requires c κs = room-held _ (c .before .before .before .before .pre)
 
 returns-2 : tie.Need-returns-2
 returns-2 c =
@@ -34,9 +28,9 @@ add-spec =
     tie.close
     (tie.spec
     mul-ticks
-    array-write-ticks
+    (λ c. room-held _ (c .before .before .before .pre))
     add-if1
     (λ c. search needs)
     returns
-    shifted-requires
+    (λ c κs. room-held _ (c .before .before .before .before .pre))
     returns-2)

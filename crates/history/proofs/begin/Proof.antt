@@ -9,9 +9,6 @@ use Rattle.history.proofs.begin.Tie as tie
 abbrev for : tie.Start → Pair
 for s = pairOf (s .args .ceilings .now) (s .args .leasts .now)
 
-unbegun-requires : tie.Need-unbegun-requires
-unbegun-requires c κs = opened-yes _ _ (c .enum-told .given .1) (c .before .before .before .before .pre)
-
 returns : tie.Need-returns
 returns c =
     let s = c .before .before .before .before .before in
@@ -23,4 +20,11 @@ returns-2 c =
     begun-blank (for s) _ (s .args .answer) (s .pre) (c .before .match .keys2) (c .zero-history .ensures)
 
 pub begin-spec : {M : Type 1} → statement M
-begin-spec = tie.close (tie.spec (λ c. search needs) unbegun-requires (λ c κs. search needs) returns returns-2)
+begin-spec =
+    tie.close
+    (tie.spec
+    (λ c. search needs)
+    (λ c κs. opened-yes _ _ (c .enum-told .given .1) (c .before .before .before .before .pre))
+    (λ c κs. search needs)
+    returns
+    returns-2)

@@ -12,17 +12,11 @@ Inv-loop n out₀ i₀ out i = (i ≤ n) × Filled (λ k. getD out₀ k 0) out�
 abbrev μ-loop : tie.MeasureT-loop
 μ-loop n out₀ i₀ out i = n - i
 
-loop-holds : tie.Need-loop-holds Inv-loop μ-loop
-loop-holds c = (search needs, unfilled _ _)
-
 loop-again : tie.Need-loop-again Inv-loop μ-loop
 loop-again c =
     let head = c .before .loop in
     let l : length (c .before .before .args .ticks) ≡ 256 = search needs in
     (omega arith, moved-turn (c .before .before .args .ticks) (head .out) (head .i) (omega arith) (head .inv .1))
-
-returns : tie.Need-returns Inv-loop μ-loop
-returns c = filled-front (c .before .loop .inv .1) _ (omega arith)
 
 pub shifted-spec : {M : Type 1} → statement M
 shifted-spec =
@@ -30,7 +24,7 @@ shifted-spec =
     (tie.spec
     Inv-loop
     μ-loop
-    loop-holds
+    (λ c. (search needs, unfilled _ _))
     (λ c. search needs)
     (λ c. search needs)
     (λ c. search needs)
@@ -39,4 +33,4 @@ shifted-spec =
     (λ c. search needs)
     (λ c. search needs)
     loop-again
-    returns)
+    (λ c. filled-front (c .before .loop .inv .1) _ (omega arith)))

@@ -13,9 +13,6 @@ Inv-loop from to₀ same₀ i₀ to same i =
 abbrev μ-loop : tie.MeasureT-loop
 μ-loop from to₀ same₀ i₀ to same i = length from - i
 
-loop-holds : tie.Need-loop-holds Inv-loop μ-loop
-loop-holds c = (omega arith, omega arith, refl, refl, refl)
-
 returns : tie.Need-returns Inv-loop μ-loop
 returns c =
     let end = c .before .before .loop .inv in
@@ -50,7 +47,7 @@ copy-spec =
     (tie.spec
     Inv-loop
     μ-loop
-    loop-holds
+    (λ c. (omega arith, omega arith, refl, refl, refl))
     (λ c. search needs)
     returns
     (λ c. search needs)

@@ -5,8 +5,5 @@ use Rattle.history.proofs.Slicing.{legal-room}
 use Rattle.monitor.proofs.add.Statement.{statement}
 use Rattle.monitor.proofs.add.Tie as tie
 
-returns : tie.Need-returns
-returns c = (c .push .ensures .tick (legal-room _ (c .before .pre)), refl)
-
 pub add-spec : {M : Type 1} → statement M
-add-spec = tie.close (tie.spec (λ c κs. search needs) returns)
+add-spec = tie.close (tie.spec (λ c κs. search needs) (λ c. (c .push .ensures .tick (legal-room _ (c .before .pre)), refl)))

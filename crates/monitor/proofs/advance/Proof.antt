@@ -31,12 +31,6 @@ returns-2 c = subst⁻¹ (For (c .before .before .before) _) (c .before .enum-to
 returns-3 : tie.Need-returns-3
 returns-3 c = subst⁻¹ (For (c .before .before .before) _) (c .before .enum-told3 .given .1) (c .fail2 .ensures)
 
-returns-4 : tie.Need-returns-4
-returns-4 c = subst⁻¹ (For (c .before .before) _) (c .enum-told4 .given .1) refl
-
-returns-5 : tie.Need-returns-5
-returns-5 c = subst⁻¹ (For (c .before .before) _) (c .enum-told5 .given .1) refl
-
 pub advance-spec : {M : Type 1} → statement M
 advance-spec =
     tie.close
@@ -52,5 +46,5 @@ advance-spec =
     returns
     returns-2
     returns-3
-    returns-4
-    returns-5)
+    (λ c. subst⁻¹ (For (c .before .before) _) (c .enum-told4 .given .1) refl)
+    (λ c. subst⁻¹ (For (c .before .before) _) (c .enum-told5 .given .1) refl))

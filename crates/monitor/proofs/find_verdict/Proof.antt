@@ -17,12 +17,6 @@ returns c =
 legal : (e : tie.Else1) → Legal (viewOf (e .before .before .args .history))
 legal e = let told = e .before .is-legal .result in told-yes _ told (e .if1 .left) (e .before .is-legal .ensures)
 
-returns-2 : tie.Need-returns-2
-returns-2 c = sym (judging-failed _ _ (legal (c .before)) (c .if2 .taken))
-
-judge-history-requires : tie.Need-judge-history-requires
-judge-history-requires c κs = legal (c .before)
-
 returns-3 : tie.Need-returns-3
 returns-3 c =
     let e = c .before .before in
@@ -31,4 +25,11 @@ returns-3 c =
     c .judge-history .ensures ∙ sym (judging-unfailed state (args .count) (legal e) (c .before .if2 .left))
 
 pub find-verdict-spec : {M : Type 1} → statement M
-find-verdict-spec = tie.close (tie.spec (λ c κs. search needs) returns returns-2 judge-history-requires returns-3)
+find-verdict-spec =
+    tie.close
+    (tie.spec
+    (λ c κs. search needs)
+    returns
+    (λ c. sym (judging-failed _ _ (legal (c .before)) (c .if2 .taken)))
+    (λ c κs. legal (c .before))
+    returns-3)

@@ -13,12 +13,6 @@ Inv-loop upper lower ticks count held sum₀ d₀ sum d =
 abbrev μ-loop : tie.MeasureT-loop
 μ-loop upper lower ticks count held sum₀ d₀ sum d = length ticks - d
 
-loop-holds : tie.Need-loop-holds Inv-loop μ-loop
-loop-holds c = (search needs, reached-none _ _ _ _)
-
-cast-if1 : tie.Need-cast-if1 Inv-loop μ-loop
-cast-if1 c = omega (arith, c .shared-slice-known .given (c .before .loop .d))
-
 cast-if2 : tie.Need-cast-if2 Inv-loop μ-loop
 cast-if2 c = omega (arith, c .shared-slice-known2 .given (c .before .before .before .loop .d))
 
@@ -29,12 +23,6 @@ head c = c .before .before .before .before .before .before
 added : (c : tie.After-shared-slice-known3 Inv-loop μ-loop)
     → getD (head c .before .args .ticks .now) (length (head c .before .args .ticks .now) - 1 - head c .loop .d) 0 ≤ countLimit
 added c = omega (arith, c .shared-slice-known3 .given (length (head c .before .args .ticks .now) - 1 - head c .loop .d))
-
-cast-sum : tie.Need-cast-sum Inv-loop μ-loop
-cast-sum c = omega (arith, added c)
-
-add-sum : tie.Need-add-sum Inv-loop μ-loop
-add-sum c = omega (arith, added c, head c .before .pre .within, head c .before .pre .fewer)
 
 loop-again : tie.Need-loop-again Inv-loop μ-loop
 loop-again c =
@@ -66,10 +54,10 @@ judge-spec =
     (tie.spec
     Inv-loop
     μ-loop
-    loop-holds
+    (λ c. (search needs, reached-none _ _ _ _))
     (λ c. search needs)
     (λ c. search needs)
-    cast-if1
+    (λ c. omega (arith, c .shared-slice-known .given (c .before .loop .d)))
     (λ c. search needs)
     (λ c. search needs)
     (λ c. search needs)
@@ -79,8 +67,8 @@ judge-spec =
     (λ c. search needs)
     (λ c. search needs)
     (λ c. search needs)
-    cast-sum
-    add-sum
+    (λ c. omega (arith, added c))
+    (λ c. omega (arith, added c, head c .before .pre .within, head c .before .pre .fewer))
     (λ c. search needs)
     (λ c. search needs)
     loop-again

@@ -7,9 +7,6 @@ use Rattle.rendering.proofs.Answered.{refused-as}
 use Rattle.rendering.proofs.render.Statement.{statement}
 use Rattle.rendering.proofs.render.Tie as tie
 
-written-requires : tie.Need-written-requires
-written-requires c κs = subst (Found _) (c .enum-told .given .1) (c .before .before .ask .ensures)
-
 returns : tie.Need-returns
 returns c =
     c .written .ensures ∙ sym (written-is _ (subst (Found _) (c .before .enum-told .given .1) (c .before .before .before .ask .ensures)))
@@ -32,7 +29,7 @@ render-spec =
     (tie.spec
     (λ c κs. search needs)
     (λ c. search needs)
-    written-requires
+    (λ c κs. subst (Found _) (c .enum-told .given .1) (c .before .before .ask .ensures))
     (λ c. search needs)
     (λ c κs. search needs)
     (λ c. search needs)

@@ -19,9 +19,6 @@ Inv-loop ceilings leasts out₀ at₀ n₀ out at n =
 abbrev μ-loop : tie.MeasureT-loop
 μ-loop ceilings leasts out₀ at₀ n₀ out at n = length ceilings - n
 
-loop-holds : tie.Need-loop-holds Inv-loop μ-loop
-loop-holds c = (search needs, search needs, λ found w. w)
-
 -- The function's start, the pair, and what is written before a turn.
 abbrev start : tie.At-loop Inv-loop μ-loop → tie.Start Inv-loop μ-loop
 start k = k .before .before .before .before .before .before .before .before .before
@@ -59,7 +56,7 @@ write-pair-spec =
     μ-loop
     (λ c. search needs)
     (λ c κs. search needs)
-    loop-holds
+    (λ c. (search needs, search needs, λ found w. w))
     (λ c. search needs)
     (λ c. search needs)
     (λ c. search needs)

@@ -18,12 +18,6 @@ uppers k = omega (arith, k .reading-horizon .ensures, start k .pre)
 lowers : (k : tie.After-reading-horizon) → k .reading-horizon .result ≤ length (start k .args .leasts .now)
 lowers k = omega (arith, k .reading-horizon .ensures, start k .pre)
 
-slice-aggregate-report-pair : tie.Need-slice-aggregate-report-pair
-slice-aggregate-report-pair c = sym (length-take-le _ _ (uppers (c .before)))
-
-slice-aggregate-report-pair-2 : tie.Need-slice-aggregate-report-pair-2
-slice-aggregate-report-pair-2 c = sym (length-take-le _ _ (lowers (c .before .before)))
-
 report-pair-requires : tie.Need-report-pair-requires
 report-pair-requires c κs =
     let k = c .before .before in
@@ -44,7 +38,7 @@ report-reading-spec =
     (λ c κs. search needs)
     returns
     (λ c κs. search needs)
-    slice-aggregate-report-pair
-    slice-aggregate-report-pair-2
+    (λ c. sym (length-take-le _ _ (uppers (c .before))))
+    (λ c. sym (length-take-le _ _ (lowers (c .before .before))))
     report-pair-requires
     returns-2)

@@ -16,12 +16,6 @@ Inv-loop upper lower new-upper₀ new-lower₀ i₀ new-upper new-lower i =
 abbrev μ-loop : tie.MeasureT-loop
 μ-loop upper lower new-upper₀ new-lower₀ i₀ new-upper new-lower i = length upper - i
 
-loop-holds : tie.Need-loop-holds Inv-loop μ-loop
-loop-holds c = (search needs, unfilled _ _, unfilled _ _)
-
-new-figures-requires : tie.Need-new-figures-requires Inv-loop μ-loop
-new-figures-requires c κs = (c .before .before .before .before .before .before .pre .1, search needs)
-
 loop-again : tie.Need-loop-again Inv-loop μ-loop
 loop-again c =
     let head = c .before .before .loop in (
@@ -46,9 +40,9 @@ fill-spec =
     (tie.spec
     Inv-loop
     μ-loop
-    loop-holds
+    (λ c. (search needs, unfilled _ _, unfilled _ _))
     (λ c. search needs)
-    new-figures-requires
+    (λ c κs. (c .before .before .before .before .before .before .pre .1, search needs))
     (λ c. search needs)
     (λ c. search needs)
     (λ c. search needs)

@@ -14,9 +14,6 @@ returns c =
     let lowers = whole (c .before .before .copy2 .ensures) (search needs) in
     delivered _ _ _ _ _ (stop .given .1) (same-pairs _ _ _ _ uppers lowers)
 
-returns-2 : tie.Need-returns-2
-returns-2 c = undelivered _ _ _ _ _ (c .before .stop2 .given .1) refl
-
 pub deliver-spec : {M : Type 1} → statement M
 deliver-spec =
     tie.close
@@ -28,4 +25,4 @@ deliver-spec =
     (λ c. search needs)
     (λ c. search needs)
     returns
-    returns-2)
+    (λ c. undelivered _ _ _ _ _ (c .before .stop2 .given .1) refl))

@@ -8,9 +8,6 @@ use Rattle.runs.proofs.run.Tie as tie
 run-fit-requires : tie.Need-run-fit-requires
 run-fit-requires c κs = either-true _ _ _ (c .before .before .if1 .taken) (c .before .before .before .fits2 .ensures)
 
-returns-2 : tie.Need-returns-2
-returns-2 c = (either-false _ _ _ (c .if1 .left) (c .before .fits2 .ensures), refl)
-
 pub run-spec : {M : Type 1} → statement M
 run-spec =
     tie.close
@@ -22,4 +19,4 @@ run-spec =
     (λ c. search needs)
     (λ c. search needs)
     (λ c. search needs)
-    returns-2)
+    (λ c. (either-false _ _ _ (c .if1 .left) (c .before .fits2 .ensures), refl)))

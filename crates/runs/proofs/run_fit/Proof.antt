@@ -25,18 +25,6 @@ long z =
       part-long _ _ (z .zeros4 .ensures) short,
     )
 
-slice-aggregate-run-with : tie.Need-slice-aggregate-run-with
-slice-aggregate-run-with c = long (c .before .before .before) .0
-
-slice-aggregate-run-with-2 : tie.Need-slice-aggregate-run-with-2
-slice-aggregate-run-with-2 c = long (c .before .before .before .before) .1
-
-slice-aggregate-run-with-3 : tie.Need-slice-aggregate-run-with-3
-slice-aggregate-run-with-3 c = long (c .before .before .before .before .before) .2
-
-slice-aggregate-run-with-4 : tie.Need-slice-aggregate-run-with-4
-slice-aggregate-run-with-4 c = long (c .before .before .before .before .before .before) .3
-
 run-with-requires : tie.Need-run-with-requires
 run-with-requires c κs =
     let z = c .before .before .before .before .before .before in
@@ -54,13 +42,13 @@ run-fit-spec =
     (λ c κs. search needs)
     (λ c κs. search needs)
     (λ c. search needs)
-    slice-aggregate-run-with
+    (λ c. long (c .before .before .before) .0)
     (λ c. search needs)
-    slice-aggregate-run-with-2
+    (λ c. long (c .before .before .before .before) .1)
     (λ c. search needs)
-    slice-aggregate-run-with-3
+    (λ c. long (c .before .before .before .before .before) .2)
     (λ c. search needs)
-    slice-aggregate-run-with-4
+    (λ c. long (c .before .before .before .before .before .before) .3)
     run-with-requires
     (λ c. search needs)
     (λ c. search needs)

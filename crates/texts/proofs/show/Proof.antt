@@ -5,12 +5,6 @@ use Rattle.report.proofs.Said.{reported-within, reported-part}
 use Rattle.texts.proofs.show.Statement.{statement}
 use Rattle.texts.proofs.show.Tie as tie
 
-array-share-prefix-output : tie.Need-array-share-prefix-output
-array-share-prefix-output c = reported-within _ _ (c .before .before .before .report .ensures)
-
-slice-aggregate-write-all : tie.Need-slice-aggregate-write-all
-slice-aggregate-write-all c = reported-part _ _ (c .before .before .before .before .report .ensures)
-
 pub show-spec : {M : Type 1} → statement M
 show-spec =
     tie.close
@@ -29,7 +23,7 @@ show-spec =
     (λ c. search needs)
     (λ c. search needs)
     (λ c κs. search needs)
-    array-share-prefix-output
-    slice-aggregate-write-all
+    (λ c. reported-within _ _ (c .before .before .before .report .ensures))
+    (λ c. reported-part _ _ (c .before .before .before .before .report .ensures))
     (λ c κs. search needs)
     (λ c. search needs))

@@ -17,16 +17,17 @@ returns c =
 legal : (e : tie.Else1) → Legal (viewOf (e .before .before .args .self .history))
 legal e = let told = e .before .is-legal .result in told-yes _ told (e .if1 .left) (e .before .is-legal .ensures)
 
-find-limits-requires : tie.Need-find-limits-requires
-find-limits-requires c κs = legal c
-
-show-requires : tie.Need-show-requires
-show-requires c κs = limits-small _ (legal (c .before)) _ (c .find-limits .ensures)
-
 returns-2 : tie.Need-returns-2
 returns-2 c =
     let found = c .before in
     shown-looks _ (legal (found .before)) (found .find-limits .result) (found .find-limits .ensures) (c .show .result) (c .show .ensures)
 
 pub range-spec : {M : Type 1} → statement M
-range-spec = tie.close (tie.spec (λ c κs. search needs) returns find-limits-requires show-requires returns-2)
+range-spec =
+    tie.close
+    (tie.spec
+    (λ c κs. search needs)
+    returns
+    (λ c κs. legal c)
+    (λ c κs. limits-small _ (legal (c .before)) _ (c .find-limits .ensures))
+    returns-2)

@@ -8,12 +8,6 @@ use Rattle.history.proofs.Histories.{legal-room, legal-bounded, bounded
 use Rattle.history.proofs.History.is_legal.Statement.{statement}
 use Rattle.history.proofs.History.is_legal.Tie as tie
 
-returns : tie.Need-returns
-returns c l = omega (arith, legal-room _ l .within, c .if1 .taken)
-
-returns-2 : tie.Need-returns-2
-returns-2 c l = omega (arith, legal-room _ l .fewer, c .if2 .taken)
-
 -- Where there is room for a tick, the arrays have a figure for each window up to the horizon.
 abbrev start : tie.Else2 → tie.Start
 start e = e .before .before .before
@@ -26,15 +20,6 @@ uppers e = let l : length (start e .args .self .upper) ≡ maxHorizon = search n
 
 lowers : (e : tie.Else2) → start e .args .self .horizon ≤ length (start e .args .self .lower)
 lowers e = let l : length (start e .args .self .lower) ≡ maxHorizon = search needs in omega arith
-
-array-share-prefix-upper : tie.Need-array-share-prefix-upper
-array-share-prefix-upper c = uppers (c .before .before)
-
-slice-aggregate-within-limit : tie.Need-slice-aggregate-within-limit
-slice-aggregate-within-limit c = sym (length-take-le _ _ (uppers (c .before .before .before)))
-
-array-share-prefix-lower : tie.Need-array-share-prefix-lower
-array-share-prefix-lower c = lowers (c .before .before .before .before .before)
 
 slice-aggregate-within-limit-2 : tie.Need-slice-aggregate-within-limit-2
 slice-aggregate-within-limit-2 c = sym (length-take-le _ _ (lowers (c .before .before .before .before .before .before)))
@@ -57,12 +42,12 @@ pub is-legal-spec : {M : Type 1} → statement M
 is-legal-spec =
     tie.close
     (tie.spec
-    returns
-    returns-2
-    array-share-prefix-upper
-    slice-aggregate-within-limit
+    (λ c l. omega (arith, legal-room _ l .within, c .if1 .taken))
+    (λ c l. omega (arith, legal-room _ l .fewer, c .if2 .taken))
+    (λ c. uppers (c .before .before))
+    (λ c. sym (length-take-le _ _ (uppers (c .before .before .before))))
     (λ c κs. search needs)
-    array-share-prefix-lower
+    (λ c. lowers (c .before .before .before .before .before))
     slice-aggregate-within-limit-2
     (λ c κs. search needs)
     returns-3

@@ -14,14 +14,8 @@ Inv-loop numbers sum₀ i₀ sum i = sum < 2_147_483_648
 abbrev μ-loop : tie.MeasureT-loop
 μ-loop numbers sum₀ i₀ sum i = length numbers - i
 
-cast-sum : tie.Need-cast-sum Inv-loop μ-loop
-cast-sum c = omega (arith, c .shared-slice-known .given (c .before .before .loop .i))
-
 add-sum : tie.Need-add-sum Inv-loop μ-loop
 add-sum c = omega (arith, c .before .before .loop .inv, c .shared-slice-known .given (c .before .before .loop .i))
-
-loop-again : tie.Need-loop-again Inv-loop μ-loop
-loop-again c = mod-lt _ {m = 2_147_483_648} (omega arith)
 
 pub digest-spec : {M : Type 1} → statement M
 digest-spec =
@@ -33,9 +27,9 @@ digest-spec =
     (λ c. search needs)
     (λ c. search needs)
     (λ c. search needs)
-    cast-sum
+    (λ c. omega (arith, c .shared-slice-known .given (c .before .before .loop .i)))
     add-sum
     (λ c. search needs)
     (λ c. search needs)
-    loop-again
+    (λ c. mod-lt _ {m = 2_147_483_648} (omega arith))
     (λ c. search needs))

@@ -12,17 +12,11 @@ Inv-loop text out₀ at i₀ out i = (i ≤ length text) × (length out ≡ leng
 abbrev μ-loop : tie.MeasureT-loop
 μ-loop text out₀ at i₀ out i = length text - i
 
-loop-holds : tie.Need-loop-holds Inv-loop μ-loop
-loop-holds c = (search needs, search needs, wrote-none _ _)
-
 loop-again : tie.Need-loop-again Inv-loop μ-loop
 loop-again c =
     let head = c .before .before .loop in
     let w = wrote-entry (c .before .before .before .args .text .now) _ _ _ (head .i) (omega arith) (head .inv .2) in
     (omega arith, wrote-length w, w)
-
-returns : tie.Need-returns Inv-loop μ-loop
-returns c = wrote-whole _ _ _ _ (c .before .loop .i) (omega arith) (c .before .loop .inv .2)
 
 pub bytes-spec : {M : Type 1} → statement M
 bytes-spec =
@@ -30,7 +24,7 @@ bytes-spec =
     (tie.spec
     Inv-loop
     μ-loop
-    loop-holds
+    (λ c. (search needs, search needs, wrote-none _ _))
     (λ c. search needs)
     (λ c. search needs)
     (λ c. search needs)
@@ -39,4 +33,4 @@ bytes-spec =
     loop-again
     (λ c. search needs)
     (λ c. search needs)
-    returns)
+    (λ c. wrote-whole _ _ _ _ (c .before .loop .i) (omega arith) (c .before .loop .inv .2)))
