@@ -27,4 +27,11 @@ returns c = subst⁻¹ (For _ _) (c .before .before .sending .given .1) (c .push
 pub advance-spec : {M : Type 1} → statement M
 advance-spec =
     tie.close
-    (tie.spec (λ c. search needs) (λ c κs. search needs) (λ c. search needs) (λ c. search needs) returns (λ c. subst⁻¹ (For _ _) (c .enum-told .given .1) refl) (λ c. subst⁻¹ (For _ _) (c .enum-told2 .given .1) refl))
+    (tie.spec
+    (λ c. search needs)
+    (λ c κs. search needs)
+    (λ c. search needs)
+    (λ c. search needs)
+    returns
+    (λ c. subst⁻¹ (For _ _) (c .enum-told .given .1) refl)
+    (λ c. subst⁻¹ (For _ _) (c .enum-told2 .given .1) refl))
