@@ -48,85 +48,59 @@ positive (q ∷ qs) h n f = ⊎-elim (λ k. omega (arith, h .0, k .0)) (λ k. po
 
 -- ---- the answer that the questions lead to
 module _ {ℓ} {A : Type ℓ} (qs : List Question) (y : AllYes qs → A) (n : ℕ → A) where
-  pub said-no : (k : ℕ) → FirstNo qs k → answerTo qs y n ≡ n k
-  said-no k f = go (ask qs)
+  -- What holds of every answer to yeses, and of every refusal, holds of it.
+  answered {ℓ′} : (P : A → Type ℓ′) → ((ys : AllYes qs) → P (y ys)) → ((k : ℕ) → FirstNo qs k → P (n k)) → P (answerTo qs y n)
+  answered P f g = go (ask qs)
     where
-      go : (v : AllYes qs ⊎ ((m : ℕ) × FirstNo qs m)) → ⊎-elim y (λ r. n (r .0)) v ≡ n k
-      go (inl ys) = absurd (not-both qs k ys f)
-      go (inr r) = ap n (one-no qs (r .0) k (r .1) f)
+      go : (v : AllYes qs ⊎ ((m : ℕ) × FirstNo qs m)) → P (⊎-elim y (λ r. n (r .0)) v)
+      go (inl ys) = f ys
+      go (inr r) = g (r .0) (r .1)
+
+  pub said-no : (k : ℕ) → FirstNo qs k → answerTo qs y n ≡ n k
+  said-no k f = answered (λ a. a ≡ n k) (λ ys. absurd (not-both qs k ys f)) (λ m g. ap n (one-no qs m k g f))
 
   pub said-yes : (a : A) → AllYes qs → ((ys : AllYes qs) → y ys ≡ a) → answerTo qs y n ≡ a
-  said-yes a all e = go (ask qs)
-    where
-      go : (v : AllYes qs ⊎ ((m : ℕ) × FirstNo qs m)) → ⊎-elim y (λ r. n (r .0)) v ≡ a
-      go (inl ys) = e ys
-      go (inr r) = absurd (not-both qs (r .0) all (r .1))
+  said-yes a all e = answered (λ b. b ≡ a) e (λ m g. absurd (not-both qs m all g))
 
   -- Where a refusal bears its question's number and any other answer 0, the number tells which question it was.
   module _ (number : A → ℕ) (no-number : (k : ℕ) → number (n k) ≡ k) (yes-number : (ys : AllYes qs) → number (y ys) ≡ 0) (h : Positive qs)
     where
-      number-yes : AllYes qs → number (answerTo qs y n) ≡ 0
-      number-yes all = go (ask qs)
-        where
-          go : (v : AllYes qs ⊎ ((m : ℕ) × FirstNo qs m)) → number (⊎-elim y (λ r. n (r .0)) v) ≡ 0
-          go (inl ys) = yes-number ys
-          go (inr r) = absurd (not-both qs (r .0) all (r .1))
-
-      number-no : (k : ℕ) → FirstNo qs k → number (answerTo qs y n) ≡ k
-      number-no k f = ap number (said-no k f) ∙ no-number k
-
       pub no-iff : (k : ℕ) → ((1 ≤ k) × (answerTo qs y n ≡ n k)) ↔ FirstNo qs k
-      no-iff k = (there, λ f. (positive qs h k f, said-no k f))
-        where
-          there : (1 ≤ k) × (answerTo qs y n ≡ n k) → FirstNo qs k
-          there e =
-              let is : number (answerTo qs y n) ≡ k = ap number (e .1) ∙ no-number k in
-              ⊎-elim
-              (λ ys. absurd (omega (arith, e .0, is, number-yes ys)))
-              (λ r. subst (FirstNo qs) (sym (number-no (r .0) (r .1)) ∙ is) (r .1))
-              (ask qs)
+      no-iff k = (
+        (λ e. answered (λ a. a ≡ n k → FirstNo qs k)
+            (λ ys i. absurd (omega (arith, e .0, ap number i, no-number k, yes-number ys)))
+            (λ m f i. subst (FirstNo qs) (sym (no-number m) ∙ ap number i ∙ no-number k) f)
+            (e .1)),
+        (λ f. (positive qs h k f, said-no k f)),
+      )
 
       pub yes-iff : (number (answerTo qs y n) ≡ 0) ↔ AllYes qs
-      yes-iff = (there, number-yes)
-        where
-          there : number (answerTo qs y n) ≡ 0 → AllYes qs
-          there e =
-              ⊎-elim (λ ys. ys) (λ r. absurd (omega (arith, positive qs h (r .0) (r .1), number-no (r .0) (r .1), e))) (ask qs)
+      yes-iff = (
+        answered (λ a. number a ≡ 0 → AllYes qs) (λ ys e. ys) (λ m f e. absurd (omega (arith, positive qs h m f, no-number m))),
+        (λ all. answered (λ a. number a ≡ 0) yes-number (λ m f. absurd (not-both qs m all f))),
+      )
 
 -- ---- a reply: a result, or a refusal
 module _ {A : Type 0} where
-  abbrev numberOf : Reply A → ℕ
-  numberOf (result a) = 0
-  numberOf (refusal n) = n
-
-  abbrev kindOf : Reply A → ℕ
-  kindOf (result a) = 0
-  kindOf (refusal n) = 1
-
-  abbrev resultOr : A → Reply A → A
-  resultOr z (result a) = a
-  resultOr z (refusal n) = z
-
   pub no-refusal : (a : A) (n : ℕ) → ¬ (result a ≡ refusal n)
-  no-refusal a n e = let k : _≡_ {A = ℕ} 0 1 = ap kindOf e in omega arith
+  no-refusal a n e = let z : _≡_ {A = ℕ} 0 1 = cc in omega arith
 
   pub same-result : (a b : A) → result a ≡ result b → a ≡ b
-  same-result a b e = ap (resultOr a) e
+  same-result a b e = cc
 
   module _ (qs : List Question) (y : AllYes qs → A) where
     -- Refused with n exactly when question n is the first that is answered no.
     pub refusal-iff : (n : ℕ) → (replyTo qs y ≡ refusal n) ↔ FirstNo qs n
-    refusal-iff n = (go (ask qs), said-no qs (λ ys. result (y ys)) refusal n)
-      where
-        go : (v : AllYes qs ⊎ ((m : ℕ) × FirstNo qs m)) → ⊎-elim (λ ys. result (y ys)) (λ r. refusal (r .0)) v ≡ refusal n → FirstNo qs n
-        go (inl ys) e = absurd (no-refusal (y ys) n e)
-        go (inr r) e = subst (FirstNo qs) (ap numberOf e) (r .1)
+    refusal-iff n = (
+      answered qs (λ ys. result (y ys)) refusal (λ a. a ≡ refusal n → FirstNo qs n)
+          (λ ys e. absurd (no-refusal (y ys) n e))
+          (λ m f e. let i : m ≡ n = cc in rw i at f),
+      said-no qs (λ ys. result (y ys)) refusal n,
+    )
 
     -- A result is made of yeses.
     pub result-from : (a : A) → replyTo qs y ≡ result a → (ys : AllYes qs) × (y ys ≡ a)
-    result-from a = go (ask qs)
-      where
-        go : (v : AllYes qs ⊎ ((m : ℕ) × FirstNo qs m)) → ⊎-elim (λ ys. result (y ys)) (λ r. refusal (r .0)) v ≡ result a
-            → (ys : AllYes qs) × (y ys ≡ a)
-        go (inl ys) e = (ys, same-result (y ys) a e)
-        go (inr r) e = absurd (no-refusal a (r .0) (sym e))
+    result-from a =
+        answered qs (λ ys. result (y ys)) refusal (λ r. r ≡ result a → (ys : AllYes qs) × (y ys ≡ a))
+        (λ ys e. (ys, same-result (y ys) a e))
+        (λ m f e. absurd (no-refusal a m (sym e)))

@@ -8,7 +8,7 @@ use Rattle.laws.proofs.Best.{min-best, max-best, fold-each, fold-both}
 use Rattle.curves.specs.Streams.{sum, countsOf}
 use Rattle.curves.specs.Pairs.{Pair, horizon, figure, ceiling, least}
 use Rattle.curves.specs.Conformance.{Inside, Conforms}
-use Rattle.curves.specs.Ticks.{then, last, Judged, Keeps, Range}
+use Rattle.curves.specs.Ticks.{then, last, Keeps, Range}
 use Rattle.curves.proofs.Sums.{split-at, sum-start}
 use Rattle.curves.proofs.Closed.{Closed}
 use Rattle.curves.proofs.Edges.{detour}
@@ -71,37 +71,37 @@ lo p xs = fold max 0 (from p xs) (judged p xs)
 abbrev end : Pair → List ℕ → ℕ
 end p xs = fold min (suc (ceiling p 1)) (before p xs) (judged p xs)
 
-module _ (p : Pair) (xs : List ℕ) (x d : ℕ) where
-  judged-then : Judged p (then xs x) d → d ≤ judged p xs
-  judged-then j = omega (arith, j .within, j .begun, length-then xs x)
+-- A count keeps to the figures where, with the ticks before it, it keeps to those of each window.
+keeps-windows : (p : Pair) (xs : List ℕ) (x : ℕ)
+    → Keeps p (then xs x)
+    ↔ ((d : ℕ) → 1 ≤ d → d ≤ judged p xs → (least p d ≤ last xs (d - 1) + x) × (last xs (d - 1) + x ≤ ceiling p d))
+keeps-windows p xs x = (
+  (λ k d u v.
+      omega (arith, sums d u v, k d (record { positive = u; within = omega arith; begun = omega (arith, length-then xs x) }))),
+  (λ w d j.
+      let v : d ≤ judged p xs = omega (arith, j .within, j .begun, length-then xs x) in
+      omega (arith, sums d (j .positive) v, w d (j .positive) v)),
+)
+  where
+    sums : (d : ℕ) → 1 ≤ d → d ≤ judged p xs → last (then xs x) d ≡ last xs (d - 1) + x
+    sums d u v = let e : suc (d - 1) ≡ d = omega arith in rw e at (last-next xs x (d - 1) (omega arith))
 
-  module _ (u : 1 ≤ d) (v : d ≤ judged p xs) where
-    then-judged : Judged p (then xs x) d
-    then-judged = record { positive = u; within = omega arith; begun = omega (arith, length-then xs x) }
-
-    last-then : last (then xs x) d ≡ last xs (d - 1) + x
-    last-then = let e : suc (d - 1) ≡ d = omega arith in rw e at (last-next xs x (d - 1) (omega arith))
-
-module _ (p : Pair) (xs : List ℕ) where
-  pub keeps-range : (x : ℕ) → 1 ≤ horizon p → Keeps p (then xs x) ↔ ((lo p xs ≤ x) × (x < end p xs))
-  unfolding sum
-  keeps-range x h = (
-    (λ k. (
-      fold-both (λ a b. b ≤ a) max max-best 0 (from p xs) x (judged p xs) (omega arith)
-          (λ d u v. omega (arith, k d (then-judged p xs x d u v), last-then p xs x d u v)),
-      fold-both _≤_ min min-best (suc (ceiling p 1)) (before p xs) (suc x) (judged p xs)
-          (omega (arith, k 1 (then-judged p xs x 1 (omega arith) (omega arith)), last-then p xs x 1 (omega arith) (omega arith)))
-          (λ d u v. omega (arith, k d (then-judged p xs x d u v), last-then p xs x d u v)),
-    )),
-    (λ r d j.
-        let v : d ≤ judged p xs = judged-then p xs x d j in
-        omega (
-          arith,
-          last-then p xs x d (j .positive) v,
-          fold-each (λ a b. b ≤ a) max max-best 0 (from p xs) (judged p xs) d (j .positive) v,
-          fold-each _≤_ min min-best (suc (ceiling p 1)) (before p xs) (judged p xs) d (j .positive) v,
-        )),
-  )
+pub keeps-range : (p : Pair) (xs : List ℕ) (x : ℕ) → 1 ≤ horizon p → Keeps p (then xs x) ↔ ((lo p xs ≤ x) × (x < end p xs))
+unfolding sum
+keeps-range p xs x h = (
+  (λ k.
+      let w = keeps-windows p xs x .0 k in (
+        fold-both (λ a b. b ≤ a) max max-best 0 (from p xs) x (judged p xs) (omega arith) (λ d u v. omega (arith, w d u v)),
+        fold-both _≤_ min min-best (suc (ceiling p 1)) (before p xs) (suc x) (judged p xs)
+            (omega (arith, w 1 (omega arith) (omega arith))) (λ d u v. omega (arith, w d u v)),
+      )),
+  (λ r. keeps-windows p xs x .1 (λ d u v.
+      omega (
+        arith,
+        fold-each (λ a b. b ≤ a) max max-best 0 (from p xs) (judged p xs) d u v,
+        fold-each _≤_ min min-best (suc (ceiling p 1)) (before p xs) (judged p xs) d u v,
+      ))),
+)
 
 -- ---- the admissible range
 module _ (p : Pair) (xs : List ℕ) where
@@ -109,17 +109,8 @@ module _ (p : Pair) (xs : List ℕ) where
   pub range-whole : (r : Range p xs) (x : ℕ) → Keeps p (then xs x) ↔ ((r .lo ≤ x) × (x ≤ r .hi))
   range-whole r x = (
     (λ k. (r .smallest x k, r .largest x k)),
-    (λ b d j.
-        let u : 1 ≤ d = j .positive in
-        let v : d ≤ judged p xs = judged-then p xs x d j in
-        omega (
-          arith,
-          last-then p xs x d u v,
-          last-then p xs (r .lo) d u v,
-          last-then p xs (r .hi) d u v,
-          r .lo-keeps d (then-judged p xs (r .lo) d u v),
-          r .hi-keeps d (then-judged p xs (r .hi) d u v),
-        )),
+    (λ b. keeps-windows p xs x .1 (λ d u v.
+        omega (arith, keeps-windows p xs (r .lo) .0 (r .lo-keeps) d u v, keeps-windows p xs (r .hi) .0 (r .hi-keeps) d u v))),
   )
 
   pub range-once : (r s : Range p xs) → (r .lo ≡ s .lo) × (r .hi ≡ s .hi)
