@@ -14,7 +14,7 @@ use Rattle.curves.specs.Theorems.{RoundsWithinSlack, EndsWithin, EndsWit
 use Rattle.curves.proofs.Figures.{round-horizon, same-sym, same-trans}
 use Rattle.curves.proofs.Slack.{slack-falls}
 use Rattle.curves.proofs.Bound.{few-runs}
-use Rattle.curves.proofs.Agreement.{given-equal, same-given, cut-off-arrives, cut-off-crosses}
+use Rattle.curves.proofs.Agreement.{given-equal, equal-given, cut-off-arrives, cut-off-crosses}
 
 -- ---- whether a pair's figures cross, and whether a round changes one, can be told
 unfoldable pub crossed? : (c : Pair) → (¬ Crossed cutOff c) ⊎ Crossed cutOff c
@@ -103,7 +103,7 @@ never-both p q m n a x =
 pub arrives-once : ArrivesOnce
 arrives-once p q r m n a b =
     let e : m ≡ n = neither (λ l. b .runs .changes m l (a .settled)) (λ l. a .runs .changes n l (b .settled)) in
-    (e, same-given q r (same-trans (pos 0) _ _ _ (same-sym (pos 0) _ _ (a .figures)) (rw (sym e) at (b .figures))))
+    (e, equal-given q r .0 (same-trans (pos 0) _ _ _ (same-sym (pos 0) _ _ (a .figures)) (rw (sym e) at (b .figures))))
 
 pub crosses-once : CrossesOnce
 crosses-once p m n a b = neither (λ l. b .runs .uncrossed m l (a .crossed)) (λ l. a .runs .uncrossed n l (b .crossed))

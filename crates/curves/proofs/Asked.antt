@@ -1,7 +1,7 @@
 -- Questions asked in order: what `ask` says is settled by the questions alone, and so is the answer that they lead to.
 -- Assumes nothing.
 use Rattle.laws.proofs.Base.{ℕ, _≤_, _≡_, sym, ap, _∙_, subst, List, [], _∷_, _++_, _↔_, _⊎_, inl, inr, ⊎-elim, arith}
-use Rattle.curves.specs.Questions.{Question, AllYes, FirstNo, ask, answerTo, Reply, result, refusal, replyTo}
+use Rattle.curves.specs.Questions.{Question, AllYes, FirstNo, ask, answerTo, result, refusal, replyTo}
 
 pub not-both : (qs : List Question) (n : ℕ) → AllYes qs → FirstNo qs n → ⊥
 not-both [] n ys f = f

@@ -37,21 +37,20 @@ module _ {N : Type 0} (z : N) where
   pub same-refl : (c : Curves N) → Same z c c
   same-refl c = record { horizons = refl; uppers = λ d u v. refl; lowers = λ d u v. refl }
 
+  -- The windows' ceilings and leasts are equal, each.
+  pub same-by : {c e : Curves N} → horizon c ≡ horizon e → ((d : ℕ) → 1 ≤ d → d ≤ horizon c
+      → (figure z (c .upper) d ≡ figure z (e .upper) d) × (figure z (c .lower) d ≡ figure z (e .lower) d)) → Same z c e
+  same-by h f = record { horizons = h; uppers = λ d u v. f d u v .0; lowers = λ d u v. f d u v .1 }
+
   pub same-sym : (c e : Curves N) → Same z c e → Same z e c
   same-sym c e q =
-      record {
-        horizons = sym (q .horizons);
-        uppers = λ d u v. sym (q .uppers d u (rw (q .horizons) v));
-        lowers = λ d u v. sym (q .lowers d u (rw (q .horizons) v));
-      }
+      same-by (sym (q .horizons))
+      (λ d u v. let w : d ≤ horizon c = rw (q .horizons) v in (sym (q .uppers d u w), sym (q .lowers d u w)))
 
   pub same-trans : (c e f : Curves N) → Same z c e → Same z e f → Same z c f
   same-trans c e f q r =
-      record {
-        horizons = q .horizons ∙ r .horizons;
-        uppers = λ d u v. q .uppers d u v ∙ r .uppers d u (rw (sym (q .horizons)) v);
-        lowers = λ d u v. q .lowers d u v ∙ r .lowers d u (rw (sym (q .horizons)) v);
-      }
+      same-by (q .horizons ∙ r .horizons)
+      (λ d u v. let w : d ≤ horizon e = rw (sym (q .horizons)) v in (q .uppers d u v ∙ r .uppers d u w, q .lowers d u v ∙ r .lowers d u w))
 
   pub same-lists : (us vs : List N) → length us ≡ length vs
       → ((d : ℕ) → 1 ≤ d → d ≤ length us → figure z us d ≡ figure z vs d) → us ≡ vs
