@@ -1,15 +1,16 @@
 -- Rounds with differences cut off at 0 run, settle and cross together with the exact ones. Assumes nothing.
-use Rattle.laws.proofs.Base.{ℕ, zero, suc, _≤_, _<_, _≡_, sym, _↔_, _⊎_, inl, ⊎-elim, le-refl, le-step, arith}
+use Rattle.laws.proofs.Base.{ℕ, zero, suc, _≤_, _<_, _≡_, sym, _↔_, _⊎_, inl, inr, ⊎-elim, arith}
 use mathlib.Core.Logic.{Iff·symm}
 use lib.IntN.{pos}
 use lib.Signed.{_<ℤ_}
-use Rattle.laws.proofs.Whole.{lt-parts, parts-lt}
+use Rattle.laws.proofs.Best.{min-best, max-best}
+use Rattle.laws.proofs.Whole.{AtMost, lt-parts, parts-lt, smaller-best, larger-best}
 use Rattle.curves.specs.Pairs.{horizon, Same, Pair, ceiling, least, Equal}
 use Rattle.curves.specs.Rounds.{Arithmetic, whole, cutOff, given, round, after, upperAt, lowerAt, Crossed, Settled}
 use Rattle.curves.specs.Rounds.{HasAfter, Runs, Arrives, Crosses}
 use Rattle.curves.specs.Theorems.{CutOffArrives, CutOffCrosses}
 use Rattle.curves.proofs.Figures.{given-horizon, given-upper, given-lower, given-same}
-use Rattle.curves.proofs.Figures.{same-refl, same-by, same-crossed}
+use Rattle.curves.proofs.Figures.{same-refl, same-by, same-crossed, crossed-stays}
 use Rattle.curves.proofs.CutOff.{round-agrees}
 
 -- A pair's own figures, cut off at 0, are the pair's.
@@ -62,10 +63,10 @@ settled-given c n =
     (round-agrees c)
 
 -- ---- what the rounds of two arithmetics have in common after n, and so the rounds that are run
-record Tied (A B : Arithmetic) (p : Pair) (n : ℕ) : Type 0 where
-  crossed : Crossed A (after A n p) ↔ Crossed B (after B n p)
-  settled : ¬ Crossed A (after A n p) → Settled A (after A n p) ↔ Settled B (after B n p)
-  figures : ¬ Crossed A (after A n p) → (q : Pair) → HasAfter A n p q ↔ HasAfter B n p q
+pub record Tied (A B : Arithmetic) (p : Pair) (n : ℕ) : Type 0 where
+  pub crossed : Crossed A (after A n p) ↔ Crossed B (after B n p)
+  pub settled : ¬ Crossed A (after A n p) → Settled A (after A n p) ↔ Settled B (after B n p)
+  pub figures : ¬ Crossed A (after A n p) → (q : Pair) → HasAfter A n p q ↔ HasAfter B n p q
 
 tied-sym : {A B : Arithmetic} {p : Pair} {n : ℕ} → Tied A B p n → Tied B A p n
 tied-sym t =
@@ -75,43 +76,44 @@ tied-sym t =
       figures = λ h q. Iff·symm (t .figures (λ x. h (t .crossed .0 x)) q);
     }
 
-module _ (A B : Arithmetic) (p : Pair) (tie : (n : ℕ) → Runs A p n → (k : ℕ) → k ≤ n → Tied A B p k) (n : ℕ) where
+module _ (A B : Arithmetic) (p : Pair) (tie : (k : ℕ) → Tied A B p k) (n : ℕ) where
   runs-over : Runs A p n → Runs B p n
   runs-over r =
-      let t : (k : ℕ) → k < n → Tied A B p k = λ k l. tie n r k (omega arith) in
       record {
-        uncrossed = λ k l x. r .uncrossed k l (t k l .crossed .1 x);
-        changes = λ k l s. r .changes k l (t k l .settled (r .uncrossed k l) .1 s);
+        uncrossed = λ k l x. r .uncrossed k l (tie k .crossed .1 x);
+        changes = λ k l s. r .changes k l (tie k .settled (r .uncrossed k l) .1 s);
       }
 
   crosses-over : Crosses A p n → Crosses B p n
-  crosses-over x = record { runs = runs-over (x .runs); crossed = tie n (x .runs) n (le-refl n) .crossed .0 (x .crossed) }
+  crosses-over x = record { runs = runs-over (x .runs); crossed = tie n .crossed .0 (x .crossed) }
 
   arrives-over : (q : Pair) → Arrives A p n q → Arrives B p n q
   arrives-over q x =
-      let t : Tied A B p n = tie n (x .runs) n (le-refl n) in
       record {
         runs = runs-over (x .runs);
-        uncrossed = λ y. x .uncrossed (t .crossed .1 y);
-        settled = t .settled (x .uncrossed) .0 (x .settled);
-        figures = t .figures (x .uncrossed) q .0 (x .figures);
+        uncrossed = λ y. x .uncrossed (tie n .crossed .1 y);
+        settled = tie n .settled (x .uncrossed) .0 (x .settled);
+        figures = tie n .figures (x .uncrossed) q .0 (x .figures);
       }
 
 module _ (p : Pair) where
-  abbrev BothCrossed : ℕ → Type 0
-  BothCrossed n = Crossed whole (after whole n p) × Crossed cutOff (after cutOff n p)
-
-  agree : (n : ℕ) → ((k : ℕ) → k < n → ¬ BothCrossed k) → (after whole n p ≡ given whole (after cutOff n p)) ⊎ BothCrossed n
+  -- After any number of rounds: once both have crossed, both stay crossed.
+  pub agree : (n : ℕ)
+      → (after whole n p ≡ given whole (after cutOff n p)) ⊎ (Crossed whole (after whole n p) × Crossed cutOff (after cutOff n p))
   unfolding after
-  agree zero h = inl (sym (given-cut p))
-  agree (suc n) h =
+  agree zero = inl (sym (given-cut p))
+  agree (suc n) =
       ⊎-elim
       (λ e. rw e (round-agrees (after cutOff n p)))
-      (λ x. absurd (h n (le-refl (suc n)) x))
-      (agree n (λ k l. h k (le-step l)))
+      (λ x. inr (
+        crossed-stays whole AtMost smaller-best larger-best
+            (λ x y x′ y′ f r l. parts-lt x′ y′ (omega (arith, lt-parts x y l))) (after whole n p) (x .0),
+        crossed-stays cutOff _≤_ min-best max-best (λ x y x′ y′ f r l. omega arith) (after cutOff n p) (x .1),
+      ))
+      (agree n)
 
-  tied : (n : ℕ) → ((k : ℕ) → k < n → ¬ BothCrossed k) → Tied whole cutOff p n
-  tied n h =
+  pub tied : (n : ℕ) → Tied whole cutOff p n
+  tied n =
       let c : Pair = after cutOff n p in
       ⊎-elim
       (λ e.
@@ -121,19 +123,13 @@ module _ (p : Pair) where
         figures = λ un q. rw e (rw (given-cut q) at (equal-given c (given cutOff q)));
       })
       (λ x. record { crossed = ((λ y. x .1), (λ y. x .0)); settled = λ un. absurd (un (x .0)); figures = λ un. absurd (un (x .0)) })
-      (agree n h)
-
-  from-whole : (n : ℕ) → Runs whole p n → (k : ℕ) → k ≤ n → Tied whole cutOff p k
-  from-whole n r k l = tied k (λ j i x. r .uncrossed j (omega arith) (x .0))
-
-  from-cut : (n : ℕ) → Runs cutOff p n → (k : ℕ) → k ≤ n → Tied cutOff whole p k
-  from-cut n r k l = tied-sym (tied k (λ j i x. r .uncrossed j (omega arith) (x .1)))
+      (agree n)
 
   pub runs-cut : (n : ℕ) → Runs whole p n → Runs cutOff p n
-  runs-cut = runs-over whole cutOff p from-whole
+  runs-cut = runs-over whole cutOff p tied
 
 pub cut-off-arrives : CutOffArrives
-cut-off-arrives p n q = (arrives-over whole cutOff p (from-whole p) n q, arrives-over cutOff whole p (from-cut p) n q)
+cut-off-arrives p n q = (arrives-over whole cutOff p (tied p) n q, arrives-over cutOff whole p (λ k. tied-sym (tied p k)) n q)
 
 pub cut-off-crosses : CutOffCrosses
-cut-off-crosses p n = (crosses-over whole cutOff p (from-whole p) n, crosses-over cutOff whole p (from-cut p) n)
+cut-off-crosses p n = (crosses-over whole cutOff p (tied p) n, crosses-over cutOff whole p (λ k. tied-sym (tied p k)) n)

@@ -1,10 +1,9 @@
 -- Closed pairs, whose figures keep to all that they imply: the causal pairs, and those that a round leaves as they are. Assumes nothing.
-use Rattle.laws.proofs.Base.{ℕ, zero, suc, _+_, _-_, _≤_, _<_, min, max, _≡_, refl, le-refl, arith}
-use Rattle.laws.proofs.Best.{min-best, max-best}
+use Rattle.laws.proofs.Base.{ℕ, zero, suc, _+_, _-_, _≤_, _≡_, refl, le-refl, arith}
 use Rattle.curves.specs.Pairs.{horizon, figure, Pair, ceiling, least}
-use Rattle.curves.specs.Rounds.{cutOff, round, newUpper, newLower, Crossed, Settled, Causal}
-use Rattle.curves.proofs.Figures.{round-horizon, round-upper, round-lower, new-best, same-crossed}
-use Rattle.curves.proofs.Tightened.{upper-falls, lower-rises, Tightened, tightened}
+use Rattle.curves.specs.Rounds.{cutOff, round, Crossed, Settled, Causal}
+use Rattle.curves.proofs.Figures.{round-horizon, same-by, same-crossed}
+use Rattle.curves.proofs.Tightened.{upper-falls, lower-rises, round-within, Tightened, tightened}
 use Rattle.curves.proofs.Agreement.{crossed-given, settled-given}
 
 abbrev pub Closed : Pair → Type 0
@@ -43,27 +42,15 @@ closed p c =
 -- No candidate of a round is better than the figure of a closed pair.
 pub settles : (p : Pair) → Closed p → Settled cutOff p
 settles p t =
-    record {
-      horizons = round-horizon cutOff p;
-      uppers = λ d u v. upper d u (rw (round-horizon cutOff p) at v);
-      lowers = λ d u v. lower d u (rw (round-horizon cutOff p) at v);
-    }
-  where
-    whole : (a d : ℕ) → a < d → a + (d - a) ≡ d
-    whole a d l = omega arith
-
-    upper : (d : ℕ) → 1 ≤ d → d ≤ horizon p → ceiling (round cutOff p) d ≡ ceiling p d
-    upper d u v =
-        let best : ceiling p d ≤ newUpper cutOff p d =
-        new-best cutOff _≤_ min min-best (horizon p) (ceiling p) (least p) d (ceiling p d) (le-refl _)
-        (λ a l m. rw (whole a d m) at (t .upper-plus a (d - a) (omega arith)))
-        (λ b l m. omega (arith, t .upper-minus d b m)) in
-        omega (arith, upper-falls p d v, round-upper cutOff p d u v)
-
-    lower : (d : ℕ) → 1 ≤ d → d ≤ horizon p → least (round cutOff p) d ≡ least p d
-    lower d u v =
-        let best : newLower cutOff p d ≤ least p d =
-        new-best cutOff (λ x y. y ≤ x) max max-best (horizon p) (least p) (ceiling p) d (least p d) (le-refl _)
-        (λ a l m. rw (whole a d m) at (t .lower-plus a (d - a) (omega arith)))
-        (λ b l m. omega (arith, t .lower-minus d b m)) in
-        omega (arith, lower-rises p d v, round-lower cutOff p d u v)
+    same-by 0 (round-horizon cutOff p) (λ d u v.
+    let w : d ≤ horizon p = rw (round-horizon cutOff p) at v in
+    omega (
+      arith,
+      upper-falls p d w,
+      lower-rises p d w,
+      round-within p d (ceiling p d) (least p d) u w (le-refl _, le-refl _)
+          (λ a l m.
+          let e : a + (d - a) ≡ d = omega arith in
+          omega (arith, rw e at (t .upper-plus a (d - a) (omega arith)), rw e at (t .lower-plus a (d - a) (omega arith))))
+          (λ b l m. omega (arith, t .upper-minus d b m, t .lower-minus d b m)),
+    ))

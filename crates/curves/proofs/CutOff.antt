@@ -1,17 +1,15 @@
 -- One round with differences cut off at 0 has the figures of the exact one, or both cross. Assumes nothing.
-use Rattle.laws.proofs.Base.{ℕ, _+_, _-_, _≤_, _<_, min, max, _≡_, sym, ap, _∙_, _⊎_, inl, inr, ⊎-map, decLe, arith}
+use Rattle.laws.proofs.Base.{ℕ, _+_, _-_, _≤_, _<_, min, max, _≡_, sym, _∙_, _⊎_, inl, inr, ⊎-map, decLe, arith}
 use lib.IntN.{ℤ, pos, _+ℤ_, _-ℤ_}
-use lib.Signed.{_≤ℤ_, _<ℤ_}
-use Rattle.laws.specs.Ranges.{fold}
-use Rattle.laws.proofs.Best.{fold-map, max-best}
+use Rattle.laws.proofs.Best.{fold-map}
 use Rattle.laws.proofs.Table.{table-same}
 use Rattle.laws.proofs.Search.{every}
-use Rattle.laws.proofs.Whole.{le-parts, parts-lt, smaller-best, smaller-pos, larger-pos, minus-pos, larger-minus}
+use Rattle.laws.proofs.Whole.{AtMost, parts-lt, smaller-best, smaller-pos, larger-pos, minus-pos, larger-minus}
 use Rattle.curves.specs.Pairs.{Curves, horizon, Pair, ceiling, least}
 use Rattle.curves.specs.Rounds.{whole, cutOff, given, round, newFigure, newUpper, newLower, Crossed, upperAt, lowerAt}
 use Rattle.curves.proofs.Figures.{given-horizon, given-upper, given-lower, round-horizon, round-upper, round-lower}
-use Rattle.curves.proofs.Figures.{new-old, new-plus}
-use Rattle.curves.proofs.Tightened.{upper-falls}
+use Rattle.curves.proofs.Figures.{new-old}
+use Rattle.curves.proofs.Tightened.{upper-falls, plus}
 
 -- A new figure of one curve, exact and cut off, where every step of its fold agrees.
 module _ (best′ : ℤ → ℤ → ℤ) (best : ℕ → ℕ → ℕ) (H : ℕ) (own other : ℕ → ℕ) (own′ other′ : ℕ → ℤ)
@@ -22,22 +20,12 @@ module _ (best′ : ℤ → ℤ → ℤ) (best : ℕ → ℕ → ℕ) (H : ℕ) 
       → ((t y : ℕ) → 1 ≤ t → d + t ≤ H → best′ (pos y) (pos (own (d + t)) -ℤ pos (other t)) ≡ pos (best y (own (d + t) - other t)))
       → newFigure whole best′ H′ own′ other′ d ≡ pos (newFigure cutOff best H own other d)
   unfolding newFigure
-  new-agrees H′ e minus-ok = rw (e, sums) differences
-    where
-      parts : ℕ → ℕ
-      parts a = own a + own (d - a)
-
-      sums : fold best′ (own′ d) (λ a. own′ a +ℤ own′ (d - a)) (d - 1) ≡ pos (fold best (own d) parts (d - 1))
-      sums =
-          rw (is d u v)
-          (fold-map pos best best′ (own d) parts _ (d - 1)
-          (λ a p q y. rw (is a p (omega arith), is (d - a) (omega arith) (omega arith)) (best-pos y (parts a))))
-
-      differences : fold best′ (pos (fold best (own d) parts (d - 1))) (λ t. own′ (d + t) -ℤ other′ t) (H - d)
-          ≡ pos (newFigure cutOff best H own other d)
-      differences =
-          fold-map pos best best′ _ (λ t. own (d + t) - other t) _ (H - d)
-          (λ t p q y. rw (is (d + t) (omega arith) (omega arith), is′ t p (omega arith)) (minus-ok t y p (omega arith)))
+  new-agrees H′ e minus-ok =
+      rw (e, is d u v)
+      (rw (fold-map pos best best′ (own d) (λ a. own a + own (d - a)) (λ a. own′ a +ℤ own′ (d - a)) (d - 1)
+      (λ a p q y. rw (is a p (omega arith), is (d - a) (omega arith) (omega arith)) (best-pos y _)))
+      (fold-map pos best best′ _ (λ t. own (d + t) - other t) (λ t. own′ (d + t) -ℤ other′ t) (H - d)
+      (λ t p q y. rw (is (d + t) (omega arith) (omega arith), is′ t p (omega arith)) (minus-ok t y p (omega arith)))))
 
 module _ (c : Pair) where
   -- The pair's figures as whole numbers.
@@ -66,39 +54,25 @@ module _ (c : Pair) where
   BothCross = Crossed whole (round whole (given whole c)) × Crossed cutOff (round cutOff c)
 
   negative-crosses : (d t : ℕ) → 1 ≤ d → 1 ≤ t → d + t ≤ horizon c → ceiling c (d + t) < least c t → BothCross
-  negative-crosses d t u p q n = (
-    record { window = d + t; positive = w; within = rw (round-horizon whole exact) q′; above = above },
-    record { window = d + t; positive = w; within = rw (round-horizon cutOff c) q; above = cut },
-  )
-    where
-      w : 1 ≤ d + t
-      w = omega arith
-
-      q′ : d + t ≤ horizon exact
-      q′ = rw (given-horizon whole c) q
-
-      least-high : least c t ≤ least (round cutOff c) (d + t)
-      least-high =
-          let e : d + t - d ≡ t = omega arith in
-          rw (round-lower cutOff c (d + t) w q)
-          (omega (
-            arith,
-            new-plus cutOff (λ x y. y ≤ x) max max-best (horizon c) (least c) (ceiling c) (d + t) d u (omega arith),
-            ap (least c) e,
-          ))
-
-      cut : ceiling (round cutOff c) (d + t) < least (round cutOff c) (d + t)
-      cut = omega (arith, least-high, upper-falls c (d + t) q)
-
-      ceiling-low : newUpper whole exact (d + t) ≤ℤ pos (ceiling c (d + t))
-      ceiling-low =
-          rw (sym (given-upper whole c (d + t) w q))
-          (new-old whole _≤ℤ_ (whole .smaller) smaller-best (horizon exact) (upperAt whole exact) (lowerAt whole exact) (d + t))
-
-      above : upperAt whole (round whole exact) (d + t) <ℤ lowerAt whole (round whole exact) (d + t)
-      above =
-          rw (round-upper whole exact (d + t) w q′, round-lower whole exact (d + t) w q′, lower-agrees (d + t) w q)
-          (parts-lt (newUpper whole exact (d + t)) _ (omega (arith, le-parts _ _ ceiling-low, least-high)))
+  negative-crosses d t u p q n =
+      let w : 1 ≤ d + t = omega arith in
+      let q′ : d + t ≤ horizon exact = rw (given-horizon whole c) q in
+      let low = new-old whole AtMost (whole .smaller) smaller-best (horizon exact) (upperAt whole exact) (lowerAt whole exact) (d + t) in (
+        record {
+          window = d + t;
+          positive = w;
+          within = rw (round-horizon whole exact) q′;
+          above =
+              rw (round-upper whole exact (d + t) w q′, round-lower whole exact (d + t) w q′, lower-agrees (d + t) w q)
+              (parts-lt (newUpper whole exact (d + t)) _ (omega (arith, rw (given-upper whole c (d + t) w q) at low, plus c d t q)));
+        },
+        record {
+          window = d + t;
+          positive = w;
+          within = rw (round-horizon cutOff c) q;
+          above = omega (arith, plus c d t q, upper-falls c (d + t) q);
+        },
+      )
 
   -- No difference is negative.
   abbrev NoneNegative : Type 0

@@ -174,3 +174,21 @@ module _ (A : Arithmetic) where
         → ((t : ℕ) → 1 ≤ t → d + t ≤ H → R z (A .minus (own (d + t)) (other t)))
         → R z (newFigure A best H own other d)
     new-best z = new-holds best H own other d (R z) (B .both z)
+
+  -- A least above its ceiling stays there: the one does not fall, the other does not rise.
+  pub crossed-stays : (R : A .Number → A .Number → Type 0) → IsBest R (A .smaller) → IsBest (λ x y. R y x) (A .larger)
+      → ((x y x′ y′ : A .Number) → R x′ x → R y y′ → A .Below x y → A .Below x′ y′)
+      → (c : Curves (A .Number)) → Crossed A c → Crossed A (round A c)
+  crossed-stays R B B′ further c x =
+      let d : ℕ = x .window in
+      record {
+        window = d;
+        positive = x .positive;
+        within = rw (round-horizon c) (x .within);
+        above =
+            rw (round-upper c d (x .positive) (x .within), round-lower c d (x .positive) (x .within))
+            (further (upperAt A c d) (lowerAt A c d) _ _
+            (new-old R (A .smaller) B (horizon c) (upperAt A c) (lowerAt A c) d)
+            (new-old (λ x y. R y x) (A .larger) B′ (horizon c) (lowerAt A c) (upperAt A c) d)
+            (x .above));
+      }
