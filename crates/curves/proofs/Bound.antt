@@ -15,7 +15,7 @@ use Rattle.curves.proofs.Walkable.{closed-last}
 module _ (p : Pair) (k : ℕ) (short : horizon p ≤ 2 ^ k) (uncrossed : (j : ℕ) → j ≤ suc k → ¬ Crossed cutOff (after cutOff j p)) where
   tight : (j : ℕ) → j ≤ k → Tightened (after cutOff j p) (after cutOff (suc j) p)
   unfolding after
-  tight j l = tightened (after cutOff j p) (uncrossed j (omega arith)) (uncrossed (suc j) (omega arith))
+  tight j l = tightened (after cutOff j p) (uncrossed (suc j) (omega arith))
 
   -- The first round goes into windows that lead past the places 0 to H, the other k into short cuts.
   levels : Levels (horizon p) k (λ i. after cutOff (suc i) p)

@@ -21,10 +21,8 @@ settled-figures p s (suc d) v =
 pub closed : (p : Pair) → Causal p → Closed p
 closed p c =
     record {
-      upper-plus = λ a b w. omega (arith, t .upper-plus a b w, same (a + b) w);
-      lower-plus = λ a b w. omega (arith, t .lower-plus a b w, same (a + b) w);
-      upper-minus = λ a b w. omega (arith, t .upper-minus a b w, same a (omega arith));
-      lower-minus = λ a b w. omega (arith, t .lower-minus a b w, same a (omega arith));
+      plus = λ a b w. omega (arith, t .plus a b w, same (a + b) w);
+      minus = λ a b w. omega (arith, t .minus a b w, same a (omega arith));
     }
   where
     uncrossed : ¬ Crossed cutOff p
@@ -34,7 +32,7 @@ closed p c =
     settled = settled-given p uncrossed .0 (c .settled)
 
     t : Tightened p (round cutOff p)
-    t = tightened p uncrossed (λ x. uncrossed (same-crossed cutOff _ _ settled x))
+    t = tightened p (λ x. uncrossed (same-crossed cutOff _ _ settled x))
 
     same : (d : ℕ) → d ≤ horizon p → (ceiling (round cutOff p) d ≡ ceiling p d) × (least (round cutOff p) d ≡ least p d)
     same = settled-figures p settled
@@ -51,6 +49,6 @@ settles p t =
       round-within p d (ceiling p d) (least p d) u w (le-refl _, le-refl _)
           (λ a l m.
           let e : a + (d - a) ≡ d = omega arith in
-          omega (arith, rw e at (t .upper-plus a (d - a) (omega arith)), rw e at (t .lower-plus a (d - a) (omega arith))))
-          (λ b l m. omega (arith, t .upper-minus d b m, t .lower-minus d b m)),
+          omega (arith, rw e at (t .plus a (d - a) (omega arith))))
+          (λ b l m. omega (arith, t .minus d b m)),
     ))

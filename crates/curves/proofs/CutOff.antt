@@ -9,7 +9,7 @@ use Rattle.curves.specs.Pairs.{Curves, horizon, Pair, ceiling, least}
 use Rattle.curves.specs.Rounds.{whole, cutOff, given, round, newFigure, newUpper, newLower, Crossed, upperAt, lowerAt}
 use Rattle.curves.proofs.Figures.{given-horizon, given-upper, given-lower, round-horizon, round-upper, round-lower}
 use Rattle.curves.proofs.Figures.{new-old}
-use Rattle.curves.proofs.Tightened.{upper-falls, plus}
+use Rattle.curves.proofs.Tightened.{upper-falls, round-plus}
 
 -- A new figure of one curve, exact and cut off, where every step of its fold agrees.
 module _ (best′ : ℤ → ℤ → ℤ) (best : ℕ → ℕ → ℕ) (H : ℕ) (own other : ℕ → ℕ) (own′ other′ : ℕ → ℤ)
@@ -64,13 +64,13 @@ module _ (c : Pair) where
           within = rw (round-horizon whole exact) q′;
           above =
               rw (round-upper whole exact (d + t) w q′, round-lower whole exact (d + t) w q′, lower-agrees (d + t) w q)
-              (parts-lt (newUpper whole exact (d + t)) _ (omega (arith, rw (given-upper whole c (d + t) w q) at low, plus c d t q)));
+              (parts-lt (newUpper whole exact (d + t)) _ (omega (arith, rw (given-upper whole c (d + t) w q) at low, round-plus c d t q)));
         },
         record {
           window = d + t;
           positive = w;
           within = rw (round-horizon cutOff c) q;
-          above = omega (arith, plus c d t q, upper-falls c (d + t) q);
+          above = omega (arith, round-plus c d t q, upper-falls c (d + t) q);
         },
       )
 

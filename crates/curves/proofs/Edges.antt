@@ -28,11 +28,11 @@ module _ (c e : Pair) (t : Tightened c e) where
         | yes l ↦
             let k : a - b ≡ y - x = omega arith in
             let m : a - b + b ≡ a = omega arith in
-            omega (arith, t .upper-minus (a - b) b (omega arith), ap (ceiling e) k, ap (ceiling c) m)
+            omega (arith, t .minus (a - b) b (omega arith), ap (ceiling e) k, ap (ceiling c) m)
         | no l ↦
             let k : b - a ≡ x - y = omega arith in
             let m : b - a + a ≡ b = omega arith in
-            omega (arith, t .lower-minus (b - a) a (omega arith), ap (least e) k, ap (least c) m, no-rise e x y (omega arith))
+            omega (arith, t .minus (b - a) a (omega arith), ap (least e) k, ap (least c) m, no-rise e x y (omega arith))
       ]
 
   -- By way of any place: one edge of e costs no more than two of c.
@@ -44,7 +44,7 @@ module _ (c e : Pair) (t : Tightened c e) where
             elim (decLe y z) [
               | yes m ↦
                   let k : y - x + (z - y) ≡ z - x = omega arith in
-                  omega (arith, t .upper-plus (y - x) (z - y) (omega arith), ap (ceiling e) k, no-fall c x y l, no-fall c y z m)
+                  omega (arith, t .plus (y - x) (z - y) (omega arith), ap (ceiling e) k, no-fall c x y l, no-fall c y z m)
               | no m ↦ omega (arith, detour (y - x) (y - z) x z (omega arith) (omega arith) (omega arith), no-fall c x y l)
             ]
         | no l ↦
@@ -52,6 +52,6 @@ module _ (c e : Pair) (t : Tightened c e) where
               | yes m ↦ omega (arith, detour (z - y) (x - y) x z (omega arith) (omega arith) (omega arith), no-fall c y z m)
               | no m ↦
                   let k : x - y + (y - z) ≡ x - z = omega arith in
-                  omega (arith, t .lower-plus (x - y) (y - z) (omega arith), ap (least e) k, no-rise e x z (omega arith))
+                  omega (arith, t .plus (x - y) (y - z) (omega arith), ap (least e) k, no-rise e x z (omega arith))
             ]
       ]

@@ -54,8 +54,8 @@ module _ (p : Pair) (C : Closed p) (h : 1 ≤ horizon p) (g : ℕ → ℕ) (none
 
 pub follows-upper : (p : Pair) → Closed p → 1 ≤ horizon p → Follows p (ceiling p)
 unfolding figure
-follows-upper p C h = follows p C h (ceiling p) refl (C .upper-minus) (C .upper-plus)
+follows-upper p C h = follows p C h (ceiling p) refl (λ i d l. C .minus i d l .0) (λ i d l. C .plus i d l .0)
 
 pub follows-lower : (p : Pair) → Closed p → 1 ≤ horizon p → Follows p (least p)
 unfolding figure
-follows-lower p C h = follows p C h (least p) refl (C .lower-plus) (C .lower-minus)
+follows-lower p C h = follows p C h (least p) refl (λ i d l. C .plus i d l .1) (λ i d l. C .minus i d l .1)

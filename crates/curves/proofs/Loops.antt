@@ -123,26 +123,19 @@ module _ (H k : ℕ) (c : ℕ → Pair) (levels : Levels H k c) where
   -- One edge in front of a short walk. H + 1 edges come to H + 2 places, two of which are one.
   pub ahead : {z u l U L : ℕ} (x y : ℕ) → x ≤ H → rise (c 0) x y + u + L ≤ U + (fall (c 0) x y + l)
       → ShortWalk H (c 0) y z u l → ShortWalk H (c 0) x z U L
-  ahead {z} {U} {L} x y h e short =
+  ahead {z} {U} {L} x y h e (n, few, rest) =
+      let w : Walk H (c 0) (suc n) x z U L = longer H (c 0) x y h e rest in
       elim (decLe (suc n) H) [
         | yes m ↦ (suc n, m, w)
-        | no m ↦ unloop (pigeonhole n (w .at) (λ i b. omega (arith, w .inside i)))
+        | no m ↦
+            let r : Repeats (w .at) (suc n) = pigeonhole n (w .at) (λ i b. omega (arith, w .inside i)) in
+            let around : r .first + (r .second - r .first) ≡ r .second = omega (arith, r .before) in (
+              r .first + (suc n - r .second),
+              omega (arith, r .before, r .within),
+              unlooped (r .first) (r .second - r .first) (suc n - r .second)
+                  (omega (arith, r .before, r .within))
+                  (omega (arith, r .within, levels .short, one-le-pow k 2 (omega arith)))
+                  w
+                  (ap (w .at) around ∙ sym (r .same)),
+            )
       ]
-    where
-      n : ℕ
-      n = short .0
-
-      w : Walk H (c 0) (suc n) x z U L
-      w = longer H (c 0) x y h e (short .2)
-
-      unloop : Repeats (w .at) (suc n) → ShortWalk H (c 0) x z U L
-      unloop r =
-          let around : r .first + (r .second - r .first) ≡ r .second = omega (arith, r .before) in (
-            r .first + (suc n - r .second),
-            omega (arith, r .before, r .within, short .1),
-            unlooped (r .first) (r .second - r .first) (suc n - r .second)
-                (omega (arith, r .before, r .within))
-                (omega (arith, r .within, short .1, levels .short, one-le-pow k 2 (omega arith)))
-                w
-                (ap (w .at) around ∙ sym (r .same)),
-          )

@@ -187,7 +187,7 @@ module _ (p : Pair) (C : Closed p) (xs : List ℕ) (c : Conforms p xs) where
         arith,
         last-split (d - 1) 0 (d - 1) (omega arith) (omega arith) (omega arith),
         last-none xs,
-        rw k at (C .upper-minus (d - 1) 1 (omega arith)),
+        rw k at (C .minus (d - 1) 1 (omega arith)),
       )
 
   pub lo-end : 1 ≤ horizon p → suc (lo p xs) ≤ end p xs

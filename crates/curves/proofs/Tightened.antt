@@ -44,61 +44,54 @@ round-within c d x y u v old plus minus =
 -- The figures of e keep to what those of c imply.
 pub record Tightened (c e : Pair) : Type 0 where
   -- Sub-additive and super-additive.
-  pub upper-plus : (a b : ℕ) → a + b ≤ horizon c → ceiling e (a + b) ≤ ceiling c a + ceiling c b
-  pub lower-plus : (a b : ℕ) → a + b ≤ horizon c → least c a + least c b ≤ least e (a + b)
+  pub plus : (a b : ℕ) → a + b ≤ horizon c → (ceiling e (a + b) ≤ ceiling c a + ceiling c b) × (least c a + least c b ≤ least e (a + b))
   -- No figure can be reached only by a window that cannot go on. With a = 0: no least of c above its ceiling.
-  pub upper-minus : (a b : ℕ) → a + b ≤ horizon c → ceiling e a + least c b ≤ ceiling c (a + b)
-  pub lower-minus : (a b : ℕ) → a + b ≤ horizon c → least c (a + b) ≤ least e a + ceiling c b
+  pub minus : (a b : ℕ) → a + b ≤ horizon c → (ceiling e a + least c b ≤ ceiling c (a + b)) × (least c (a + b) ≤ least e a + ceiling c b)
 
--- A law for parts of at least one tick holds for all parts, where it holds with a part of none.
-parts : (H : ℕ) (P : ℕ → ℕ → ℕ → Type 0) → ((a b : ℕ) → 1 ≤ a → 1 ≤ b → a + b ≤ H → P a b (a + b))
-    → ((b : ℕ) → b ≤ H → P 0 b b) → ((a : ℕ) → a ≤ H → P a 0 a) → (a b : ℕ) → a + b ≤ H → P a b (a + b)
-parts H P f g h zero b w = rw (zero-add b) (g b (omega arith))
-parts H P f g h (suc a) zero w = rw (add-zero (suc a)) (h (suc a) (omega arith))
-parts H P f g h (suc a) (suc b) w = f (suc a) (suc b) (omega arith) (omega arith) w
-
-pub plus : (c : Pair) (a b : ℕ) → a + b ≤ horizon c
-    → (ceiling (round cutOff c) (a + b) ≤ ceiling c a + ceiling c b) × (least c a + least c b ≤ least (round cutOff c) (a + b))
-unfolding figure
-plus c =
-    parts (horizon c)
-    (λ a b d. (ceiling (round cutOff c) d ≤ ceiling c a + ceiling c b) × (least c a + least c b ≤ least (round cutOff c) d))
-    (λ a b u v w.
-    let k : a + b - a ≡ b = omega arith in
-    rw (round-upper cutOff c (a + b) (omega arith) w, round-lower cutOff c (a + b) (omega arith) w) (
-      rw k at (new-plus cutOff _≤_ min min-best (horizon c) (ceiling c) (least c) (a + b) a u (omega arith)),
-      rw k at (new-plus cutOff (λ x y. y ≤ x) max max-best (horizon c) (least c) (ceiling c) (a + b) a u (omega arith)),
-    ))
-    (λ b v. omega (arith, upper-falls c b v, lower-rises c b v))
-    (λ a v. omega (arith, upper-falls c a v, lower-rises c a v))
-
--- A round tightens, where it does not cross.
-module _ (c : Pair) (n : ¬ Crossed cutOff c) (n′ : ¬ Crossed cutOff (round cutOff c)) where
-  -- No difference was cut off: the least of b ticks is at most the new one of a + b, and so is at most the ceiling.
-  minus : (a b : ℕ) → a + b ≤ horizon c
-      → (ceiling (round cutOff c) a + least c b ≤ ceiling c (a + b)) × (least c (a + b) ≤ least (round cutOff c) a + ceiling c b)
+module _ (c : Pair) where
+  pub round-plus : (a b : ℕ) → a + b ≤ horizon c
+      → (ceiling (round cutOff c) (a + b) ≤ ceiling c a + ceiling c b) × (least c a + least c b ≤ least (round cutOff c) (a + b))
   unfolding figure
-  minus =
-      parts (horizon c)
-      (λ a b d. (ceiling (round cutOff c) a + least c b ≤ ceiling c d) × (least c d ≤ least (round cutOff c) a + ceiling c b))
-      (λ a b u v w.
-      rw (round-upper cutOff c a u (omega arith), round-lower cutOff c a u (omega arith))
-      (omega (
-        arith,
-        new-minus cutOff _≤_ min min-best (horizon c) (ceiling c) (least c) a b v w,
-        new-minus cutOff (λ x y. y ≤ x) max max-best (horizon c) (least c) (ceiling c) a b v w,
-        plus c a b w,
-        below (round cutOff c) n′ (a + b) (rw (round-horizon cutOff c) w),
-        upper-falls c (a + b) w,
-      )))
-      (λ b v. omega (arith, below c n b v))
-      (λ a v. omega (arith, upper-falls c a v, lower-rises c a v))
+  round-plus zero b w = rw (zero-add b) (omega (arith, upper-falls c b (omega arith), lower-rises c b (omega arith)))
+  round-plus (suc a) zero w =
+      let v : suc a ≤ horizon c = omega arith in
+      rw (add-zero (suc a)) (omega (arith, upper-falls c (suc a) v, lower-rises c (suc a) v))
+  round-plus (suc a) (suc b) w =
+      let k : suc a + suc b - suc a ≡ suc b = omega arith in
+      let u : 1 ≤ suc a + suc b = omega arith in
+      let l : suc a < suc a + suc b = omega arith in
+      rw (round-upper cutOff c (suc a + suc b) u w, round-lower cutOff c (suc a + suc b) u w) (
+        rw k at (new-plus cutOff _≤_ min min-best (horizon c) (ceiling c) (least c) (suc a + suc b) (suc a) (omega arith) l),
+        rw k at (new-plus cutOff (λ x y. y ≤ x) max max-best (horizon c) (least c) (ceiling c) (suc a + suc b) (suc a) (omega arith) l),
+      )
 
-  pub tightened : Tightened c (round cutOff c)
-  tightened =
-      record {
-        upper-plus = λ a b w. plus c a b w .0;
-        lower-plus = λ a b w. plus c a b w .1;
-        upper-minus = λ a b w. minus a b w .0;
-        lower-minus = λ a b w. minus a b w .1;
-      }
+  -- A round tightens, where it does not cross. No difference was cut off: the least of b ticks is at most the new one of a + b, and so is
+  -- at most the ceiling.
+  module _ (n : ¬ Crossed cutOff (round cutOff c)) where
+    round-minus : (a b : ℕ) → a + b ≤ horizon c
+        → (ceiling (round cutOff c) a + least c b ≤ ceiling c (a + b)) × (least c (a + b) ≤ least (round cutOff c) a + ceiling c b)
+    unfolding figure
+    round-minus zero b w =
+        rw (zero-add b)
+        (omega (
+          arith,
+          below (round cutOff c) n b (rw (round-horizon cutOff c) (omega arith)),
+          upper-falls c b (omega arith),
+          lower-rises c b (omega arith),
+        ))
+    round-minus (suc a) zero w =
+        let v : suc a ≤ horizon c = omega arith in
+        rw (add-zero (suc a)) (omega (arith, upper-falls c (suc a) v, lower-rises c (suc a) v))
+    round-minus (suc a) (suc b) w =
+        rw (round-upper cutOff c (suc a) (omega arith) (omega arith), round-lower cutOff c (suc a) (omega arith) (omega arith))
+        (omega (
+          arith,
+          new-minus cutOff _≤_ min min-best (horizon c) (ceiling c) (least c) (suc a) (suc b) (omega arith) w,
+          new-minus cutOff (λ x y. y ≤ x) max max-best (horizon c) (least c) (ceiling c) (suc a) (suc b) (omega arith) w,
+          round-plus (suc a) (suc b) w,
+          below (round cutOff c) n (suc a + suc b) (rw (round-horizon cutOff c) w),
+          upper-falls c (suc a + suc b) w,
+        ))
+
+    pub tightened : Tightened c (round cutOff c)
+    tightened = record { plus = round-plus; minus = round-minus }

@@ -17,48 +17,36 @@ module _ (H k : ℕ) (o : Pair) (c : ℕ → Pair) (levels : Levels H k c) (same
   move a b x y z p q r e h =
       ahead H k c levels x y r (omega (arith, detour o (c 0) tight a b x y (rw same p) (rw same q) e))
 
-  -- Windows that go up and windows that go down can be walked.
-  Walked : List ℕ → List ℕ → Type 0
-  Walked ups downs =
-      Each (λ a. a ≤ H) ups → Each (λ b. b ≤ H) downs → (x z : ℕ) → x ≤ H → z ≤ H
+  -- Windows that go up and windows that go down can be walked: up where there is room above, else down where there is room below, else
+  -- both at once.
+  walked : (ups downs : List ℕ) → Each (λ a. a ≤ H) ups → Each (λ b. b ≤ H) downs → (x z : ℕ) → x ≤ H → z ≤ H
       → x + total (λ a. a) ups ≡ z + total (λ b. b) downs → ShortWalk H (c 0) x z (total (ceiling o) ups) (total (least o) downs)
-
-  only-down : (downs : List ℕ) → Walked [] downs
-  unfolding Walked total figure
-  only-down [] f g x z p q e = stay H (c 0) x z p (omega arith)
-  only-down (b ∷ downs) f g x z p q e =
+  unfolding total figure
+  walked [] [] f g x z p q e = stay H (c 0) x z p (omega arith)
+  walked [] (b ∷ downs) f g x z p q e =
       move 0 b x (x - b) z (omega arith) (g .0) p (omega arith) (omega arith)
-      (only-down downs f (g .1) (x - b) z (omega arith) q (omega arith))
-
-  -- Up where there is room above, else down where there is room below, else both at once.
-  up-or-down : (a : ℕ) (ups : List ℕ) → ((downs : List ℕ) → Walked ups downs) → (downs : List ℕ) → Walked (a ∷ ups) downs
-  unfolding Walked total figure
-  up-or-down a ups rest [] f g x z p q e =
+      (walked [] downs f (g .1) (x - b) z (omega arith) q (omega arith))
+  walked (a ∷ ups) [] f g x z p q e =
       move a 0 x (x + a) z (f .0) (omega arith) p (omega arith) (omega arith)
-      (rest [] (f .1) g (x + a) z (omega arith) q (omega arith))
-  up-or-down a ups rest (b ∷ downs) f g x z p q e =
+      (walked ups [] (f .1) g (x + a) z (omega arith) q (omega arith))
+  walked (a ∷ ups) (b ∷ downs) f g x z p q e =
       elim (decLe (x + a) H) [
         | yes h ↦
             move a 0 x (x + a) z (f .0) (omega arith) p (omega arith) (omega arith)
-            (rest (b ∷ downs) (f .1) g (x + a) z h q (omega arith))
+            (walked ups (b ∷ downs) (f .1) g (x + a) z h q (omega arith))
         | no h ↦
             elim (decLe b x) [
               | yes i ↦
                   move 0 b x (x - b) z (omega arith) (g .0) p (omega arith) (omega arith)
-                  (up-or-down a ups rest downs f (g .1) (x - b) z (omega arith) q (omega arith))
+                  (walked (a ∷ ups) downs f (g .1) (x - b) z (omega arith) q (omega arith))
               | no i ↦
                   move a b x (x + a - b) z (f .0) (g .0) p (omega arith) (omega arith)
-                  (rest downs (f .1) (g .1) (x + a - b) z (omega (arith, f .0)) q (omega arith))
+                  (walked ups downs (f .1) (g .1) (x + a - b) z (omega (arith, f .0)) q (omega arith))
             ]
       ]
 
-  walked : (ups downs : List ℕ) → Walked ups downs
-  walked [] = only-down
-  walked (a ∷ ups) = up-or-down a ups (walked ups)
-
   -- So one edge of the last pair costs no more than any combination of figures of o.
   edge : (x z u l : ℕ) → x ≤ H → z ≤ H → Combination H o x z u l → rise (c k) x z + l ≤ u + fall (c k) x z
-  unfolding Walked
   edge x z u l p q s =
       let (n, few, w) = walked (s .ups) (s .downs) (s .ups-fit) (s .downs-fit) x z p q (s .lead) in
       omega (
@@ -79,25 +67,20 @@ module _ (H k : ℕ) (o : Pair) (c : ℕ → Pair) (levels : Levels H k c) (same
   closed-last m =
       let e : horizon (c k) ≡ H = levels .horizons k in
       record {
-        upper-plus = λ a b w.
+        plus = λ a b w.
+            let (up, down) = m a (omega arith) in
+            let (up′, down′) = m b (omega arith) in
             omega (
               arith,
-              most (a + b) (ceiling (c k) a + ceiling (c k) b) 0 (omega arith)
-                  (together H o (m a (omega arith) .0) (m b (omega arith) .0) (omega arith) (omega arith)),
+              most (a + b) (ceiling (c k) a + ceiling (c k) b) 0 (omega arith) (together H o up up′ (omega arith) (omega arith)),
+              fewest (a + b) 0 (least (c k) a + least (c k) b) (omega arith) (together H o down down′ (omega arith) (omega arith)),
             );
-        lower-plus = λ a b w.
+        minus = λ a b w.
+            let (up, down) = m (a + b) (omega arith) in
+            let (up′, down′) = m b (omega arith) in
             omega (
               arith,
-              fewest (a + b) 0 (least (c k) a + least (c k) b) (omega arith)
-                  (together H o (m a (omega arith) .1) (m b (omega arith) .1) (omega arith) (omega arith)),
-            );
-        upper-minus = λ a b w.
-            most a (ceiling (c k) (a + b)) (least (c k) b) (omega arith)
-            (together H o (m (a + b) (omega arith) .0) (m b (omega arith) .1) (omega arith) (omega arith));
-        lower-minus = λ a b w.
-            omega (
-              arith,
-              fewest a (ceiling (c k) b) (least (c k) (a + b)) (omega arith)
-                  (together H o (m (a + b) (omega arith) .1) (m b (omega arith) .0) (omega arith) (omega arith)),
+              most a (ceiling (c k) (a + b)) (least (c k) b) (omega arith) (together H o up down′ (omega arith) (omega arith)),
+              fewest a (ceiling (c k) b) (least (c k) (a + b)) (omega arith) (together H o down up′ (omega arith) (omega arith)),
             );
       }

@@ -31,39 +31,28 @@ closer-same c x y o o′ e =
 -- The first number comes again, or the others are as many as 0 to n − 1 have room for, and one more.
 pub pigeonhole : (n : ℕ) (f : ℕ → ℕ) → ((i : ℕ) → i ≤ suc n → f i ≤ n) → Repeats f (suc n)
 pigeonhole zero f h =
-    record {
-      first = 0;
-      second = 1;
-      before = omega arith;
-      within = omega arith;
-      same = omega (arith, h 0 (omega arith), h 1 (omega arith));
-    }
+    let same : f 0 ≡ f 1 = omega (arith, h 0 (omega arith), h 1 (omega arith)) in
+    record { first = 0; second = 1; before = omega arith; within = omega arith; same = same }
 pigeonhole (suc n) f h =
     ⊎-elim
-    (λ other. opened other
-    (pigeonhole n (λ i. closer (f 0) (f (suc i)))
-    (λ i l. closer-within _ _ n (other (suc i) (omega arith) (omega arith)) (h 0 (omega arith)) (h (suc i) (omega arith)))))
+    (λ other.
+    let r : Repeats (λ i. closer (f 0) (f (suc i))) (suc n) =
+    pigeonhole n (λ i. closer (f 0) (f (suc i)))
+    (λ i l. closer-within _ _ n (other (suc i) (omega arith) (omega arith)) (h 0 (omega arith)) (h (suc i) (omega arith))) in
+    record {
+      first = suc (r .first);
+      second = suc (r .second);
+      before = omega (arith, r .before);
+      within = omega (arith, r .within);
+      same =
+          closer-same (f 0) _ _
+          (other (suc (r .first)) (omega arith) (omega (arith, r .before, r .within)))
+          (other (suc (r .second)) (omega arith) (omega (arith, r .within)))
+          (r .same);
+    })
     (λ r. r)
-    (every (λ d. ¬ (f d ≡ f 0)) (Repeats f (suc (suc n))) (suc (suc n)) one)
-  where
-    one : (d : ℕ) → 1 ≤ d → d ≤ suc (suc n) → (¬ (f d ≡ f 0)) ⊎ Repeats f (suc (suc n))
-    one d u v =
-        elim (ℕ-discrete (f d) (f 0)) [
-          | yes e ↦ inr (record { first = 0; second = d; before = u; within = v; same = sym e })
-          | no e ↦ inl e
-        ]
-
-    opened : ((d : ℕ) → 1 ≤ d → d ≤ suc (suc n) → ¬ (f d ≡ f 0)) → Repeats (λ i. closer (f 0) (f (suc i))) (suc n)
-        → Repeats f (suc (suc n))
-    opened other r =
-        record {
-          first = suc (r .first);
-          second = suc (r .second);
-          before = omega (arith, r .before);
-          within = omega (arith, r .within);
-          same =
-              closer-same (f 0) _ _
-              (other (suc (r .first)) (omega arith) (omega (arith, r .before, r .within)))
-              (other (suc (r .second)) (omega arith) (omega (arith, r .within)))
-              (r .same);
-        }
+    (every (λ d. ¬ (f d ≡ f 0)) (Repeats f (suc (suc n))) (suc (suc n)) (λ d u v.
+    elim (ℕ-discrete (f d) (f 0)) [
+      | yes e ↦ inr (record { first = 0; second = d; before = u; within = v; same = sym e })
+      | no e ↦ inl e
+    ]))
