@@ -10,7 +10,7 @@ use Rattle.curves.specs.Rounds.{Arithmetic, whole, cutOff, given, round,
 use Rattle.curves.specs.Rounds.{HasAfter, Runs, Arrives, Crosses}
 use Rattle.curves.specs.Theorems.{CutOffArrives, CutOffCrosses}
 use Rattle.curves.proofs.Figures.{given-horizon, given-upper, given-lower, given-same}
-use Rattle.curves.proofs.Figures.{same-refl, same-by, same-crossed, crossed-stays}
+use Rattle.curves.proofs.Figures.{same-refl, same-by, crossed-moved, same-crossed, crossed-stays}
 use Rattle.curves.proofs.CutOff.{round-agrees}
 
 -- A pair's own figures, cut off at 0, are the pair's.
@@ -25,12 +25,8 @@ given-cut p = given-same whole (given cutOff p) p (given-equal p)
 -- The whole numbers of a pair cross, are equal and settle as its natural numbers do.
 pub crossed-given : (c : Pair) → Crossed whole (given whole c) ↔ Crossed cutOff c
 crossed-given c = (
-  (λ x.
-      let v : x .window ≤ horizon c = rw (given-horizon whole c) at (x .within) in
-      record { window = x .window; positive = x .positive; within = v; above = above (x .window) (x .positive) v .0 (x .above) }),
-  (λ x.
-      let v : x .window ≤ horizon (given whole c) = rw (given-horizon whole c) (x .within) in
-      record { window = x .window; positive = x .positive; within = v; above = above (x .window) (x .positive) (x .within) .1 (x .above) }),
+  crossed-moved (given whole c) c (given-horizon whole c) (λ d u v. above d u (rw (given-horizon whole c) at v) .0),
+  crossed-moved c (given whole c) (sym (given-horizon whole c)) (λ d u v. above d u v .1),
 )
   where
     above : (d : ℕ) → 1 ≤ d → d ≤ horizon c

@@ -11,38 +11,33 @@ use Rattle.curves.specs.Pairs.{horizon, Pair, ceiling, least, Equal, sla
 use Rattle.curves.specs.Rounds.{Arithmetic, cutOff, given, round, after, Crossed, Settled, Runs, Arrives}
 use Rattle.curves.specs.Theorems.{Closes, ArrivesOrCrosses, NeverBoth, ArrivesOnce, CrossesOnce}
 use Rattle.curves.specs.Theorems.{RoundsWithinSlack, EndsWithin, EndsWithinLogarithm}
-use Rattle.curves.proofs.Figures.{round-horizon, same-sym, same-trans}
+use Rattle.curves.proofs.Figures.{round-horizon, same-by, same-sym, same-trans}
 use Rattle.curves.proofs.Slack.{slack-falls}
 use Rattle.curves.proofs.Bound.{few-runs}
 use Rattle.curves.proofs.Agreement.{given-equal, equal-given, cut-off-arrives, cut-off-crosses}
 
 -- ---- whether a pair's figures cross, and whether a round changes one, can be told
 unfoldable pub crossed? : (c : Pair) → (¬ Crossed cutOff c) ⊎ Crossed cutOff c
-crossed? c = ⊎-elim (λ h. inl (λ x. none h x)) inr (every (λ d. least c d ≤ ceiling c d) (Crossed cutOff c) (horizon c) one)
-  where
-    none : ((d : ℕ) → 1 ≤ d → d ≤ horizon c → least c d ≤ ceiling c d) → Crossed cutOff c → ⊥
-    none h x = omega (arith, h (x .window) (x .positive) (x .within), x .above)
-
-    one : (d : ℕ) → 1 ≤ d → d ≤ horizon c → (least c d ≤ ceiling c d) ⊎ Crossed cutOff c
-    one d u v =
-        elim (decLe (least c d) (ceiling c d)) [
-          | yes h ↦ inl h
-          | no h ↦ inr (record { window = d; positive = u; within = v; above = omega arith })
-        ]
+crossed? c =
+    ⊎-elim
+    (λ h. inl (λ x. omega (arith, h (x .window) (x .positive) (x .within), x .above)))
+    inr
+    (every (λ d. least c d ≤ ceiling c d) (Crossed cutOff c) (horizon c) (λ d u v.
+    elim (decLe (least c d) (ceiling c d)) [
+      | yes h ↦ inl h
+      | no h ↦ inr (record { window = d; positive = u; within = v; above = omega arith })
+    ]))
 
 unfoldable pub equal? : (c e : Pair) → horizon c ≡ horizon e → Equal c e ⊎ ¬ Equal c e
 equal? c e s =
     ⊎-elim
-    (λ h. inl (record { horizons = s; uppers = λ d u v. h d u v .0; lowers = λ d u v. h d u v .1 }))
+    (λ h. inl (same-by 0 s h))
     inr
-    (every _ (¬ Equal c e) (horizon c) one)
-  where
-    one : (d : ℕ) → 1 ≤ d → d ≤ horizon c → ((ceiling c d ≡ ceiling e d) × (least c d ≡ least e d)) ⊎ ¬ Equal c e
-    one d u v =
-        elim (ℕ-discrete (ceiling c d) (ceiling e d)) [
-          | yes h ↦ elim (ℕ-discrete (least c d) (least e d)) [ yes l ↦ inl (h, l) | no l ↦ inr (λ q. l (q .lowers d u v)) ]
-          | no h ↦ inr (λ q. h (q .uppers d u v))
-        ]
+    (every (λ d. (ceiling c d ≡ ceiling e d) × (least c d ≡ least e d)) (¬ Equal c e) (horizon c) (λ d u v.
+    elim (ℕ-discrete (ceiling c d) (ceiling e d)) [
+      | yes h ↦ elim (ℕ-discrete (least c d) (least e d)) [ yes l ↦ inl (h, l) | no l ↦ inr (λ q. l (q .lowers d u v)) ]
+      | no h ↦ inr (λ q. h (q .uppers d u v))
+    ]))
 
 -- ---- one round more
 pub runs-more : (A : Arithmetic) (p : Pair) (n : ℕ) → Runs A p n → ¬ Crossed A (after A n p) → ¬ Settled A (after A n p)
@@ -118,10 +113,9 @@ slack-left : (p : Pair) (n : ℕ) → Runs cutOff p n → ¬ Crossed cutOff (aft
 unfolding after
 slack-left p n r h zero l = omega (arith, slack-equal (given cutOff p) p (given-equal p))
 slack-left p n r h (suc k) l =
+    let next : ¬ Crossed cutOff (after cutOff (suc k) p) =
+    below-suc (λ j. ¬ Crossed cutOff (after cutOff j p)) n (r .uncrossed) h (suc k) (omega arith) in
     omega (arith, slack-left p n r h k (omega arith), slack-falls (after cutOff k p) next (r .changes k l))
-  where
-    next : ¬ Crossed cutOff (after cutOff (suc k) p)
-    next = below-suc (λ j. ¬ Crossed cutOff (after cutOff j p)) n (r .uncrossed) h (suc k) (omega arith)
 
 pub rounds-within-slack : RoundsWithinSlack
 rounds-within-slack p q n a =

@@ -37,17 +37,15 @@ module _ (p : Pair) (xs : List ℕ) where
       (List·getD-append (grow p xs (k + j)) (lo p (grow p xs (k + j)) ∷ []) 0 i (omega (arith, length-grow (k + j))) ∙ grow-more k j i h)
 
   grown : (k i : ℕ) → i < length xs + k → countsOf (grow p xs k) i ≡ forever p xs i
-  grown k i h = elim (decLe k (suc i)) [ yes l ↦ earlier l | no l ↦ later (omega arith) ]
-    where
-      earlier : k ≤ suc i → countsOf (grow p xs k) i ≡ forever p xs i
-      earlier l =
-          let e : k + (suc i - k) ≡ suc i = omega arith in
-          sym (grow-more k (suc i - k) i h) ∙ ap (λ j. countsOf (grow p xs j) i) e
-
-      later : suc i ≤ k → countsOf (grow p xs k) i ≡ forever p xs i
-      later l =
-          let e : suc i + (k - suc i) ≡ k = omega arith in
-          ap (λ j. countsOf (grow p xs j) i) (sym e) ∙ grow-more (suc i) (k - suc i) i (omega arith)
+  grown k i h =
+      elim (decLe k (suc i)) [
+        | yes l ↦
+            let e : k + (suc i - k) ≡ suc i = omega arith in
+            sym (grow-more k (suc i - k) i h) ∙ ap (λ j. countsOf (grow p xs j) i) e
+        | no l ↦
+            let e : suc i + (k - suc i) ≡ k = omega arith in
+            ap (λ j. countsOf (grow p xs j) i) (sym e) ∙ grow-more (suc i) (k - suc i) i (omega arith)
+      ]
 
   begins : Begins xs (forever p xs)
   unfolding grow

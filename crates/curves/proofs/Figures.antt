@@ -65,6 +65,14 @@ module _ {N : Type 0} (z : N) where
         lower = same-lists (c .lower) (e .lower) (f ∙ s .horizons ∙ sym f′) (λ d u v. s .lowers d u (rw (sym f) v)) i;
       }
 
+-- Curves of one horizon that are above their leasts' ceilings where others are, of any kind of number, cross where those do.
+pub crossed-moved : {A B : Arithmetic} (c : Curves (A .Number)) (e : Curves (B .Number)) → horizon c ≡ horizon e
+    → ((d : ℕ) → 1 ≤ d → d ≤ horizon c → A .Below (upperAt A c d) (lowerAt A c d) → B .Below (upperAt B e d) (lowerAt B e d))
+    → Crossed A c → Crossed B e
+crossed-moved c e h f x =
+    let d : ℕ = x .window in
+    record { window = d; positive = x .positive; within = rw (sym h) (x .within); above = f d (x .positive) (x .within) (x .above) }
+
 module _ (A : Arithmetic) where
   pub round-horizon : (c : Curves (A .Number)) → horizon (round A c) ≡ horizon c
   unfolding round
@@ -112,17 +120,7 @@ module _ (A : Arithmetic) where
       }
 
   pub same-crossed : (c e : Curves (A .Number)) → Same (A .of 0) c e → Crossed A c → Crossed A e
-  same-crossed c e q x =
-      record {
-        window = x .window;
-        positive = x .positive;
-        within = rw (sym (q .horizons)) (x .within);
-        above =
-            subst₂ (A .Below)
-            (q .uppers (x .window) (x .positive) (x .within))
-            (q .lowers (x .window) (x .positive) (x .within))
-            (x .above);
-      }
+  same-crossed c e q = crossed-moved c e (q .horizons) (λ d u v. subst₂ (A .Below) (q .uppers d u v) (q .lowers d u v))
 
   pub round-upper : (c : Curves (A .Number)) (d : ℕ) → 1 ≤ d → d ≤ horizon c → upperAt A (round A c) d ≡ newUpper A c d
   unfolding round
@@ -179,16 +177,9 @@ module _ (A : Arithmetic) where
   pub crossed-stays : (R : A .Number → A .Number → Type 0) → IsBest R (A .smaller) → IsBest (λ x y. R y x) (A .larger)
       → ((x y x′ y′ : A .Number) → R x′ x → R y y′ → A .Below x y → A .Below x′ y′)
       → (c : Curves (A .Number)) → Crossed A c → Crossed A (round A c)
-  crossed-stays R B B′ further c x =
-      let d : ℕ = x .window in
-      record {
-        window = d;
-        positive = x .positive;
-        within = rw (round-horizon c) (x .within);
-        above =
-            rw (round-upper c d (x .positive) (x .within), round-lower c d (x .positive) (x .within))
-            (further (upperAt A c d) (lowerAt A c d) _ _
-            (new-old R (A .smaller) B (horizon c) (upperAt A c) (lowerAt A c) d)
-            (new-old (λ x y. R y x) (A .larger) B′ (horizon c) (lowerAt A c) (upperAt A c) d)
-            (x .above));
-      }
+  crossed-stays R B B′ further c =
+      crossed-moved c (round A c) (sym (round-horizon c)) (λ d u v.
+      rw (round-upper c d u v, round-lower c d u v)
+      (further (upperAt A c d) (lowerAt A c d) _ _
+      (new-old R (A .smaller) B (horizon c) (upperAt A c) (lowerAt A c) d)
+      (new-old (λ x y. R y x) (A .larger) B′ (horizon c) (lowerAt A c) (upperAt A c) d)))

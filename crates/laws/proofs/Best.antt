@@ -52,23 +52,11 @@ pub record IsBest {ℓ} {A : Type ℓ} (R : A → A → Type 0) (best : A → A 
 
 pub min-best : IsBest _≤_ min
 min-best =
-    record {
-      left = min-le-left;
-      right = min-le-right;
-      both = λ z x y p q. le-min p q;
-      chain = λ x y z p q. le-trans p q;
-      same = le-refl;
-    }
+    record { left = min-le-left; right = min-le-right; both = λ z x y p q. le-min p q; chain = λ x y z p q. le-trans p q; same = le-refl }
 
 pub max-best : IsBest (λ x y. y ≤ x) max
 max-best =
-    record {
-      left = le-max-left;
-      right = le-max-right;
-      both = λ z x y p q. max-le p q;
-      chain = λ x y z p q. le-trans q p;
-      same = le-refl;
-    }
+    record { left = le-max-left; right = le-max-right; both = λ z x y p q. max-le p q; chain = λ x y z p q. le-trans q p; same = le-refl }
 
 -- The best of x and f 1 to f n: as good as each, and no better than what is as good as each.
 module _ {ℓ} {A : Type ℓ} (R : A → A → Type 0) (best : A → A → A) (B : IsBest R best) (x : A) (f : ℕ → A) where

@@ -91,17 +91,6 @@ table-self f xs z h =
     ext-getD z (table f (length xs)) xs (length-table f (length xs))
     (λ i l. let l′ : i < length xs = (rw length-table at l) in getD-table f (length xs) i z l′ ∙ h i l′)
 
--- A turn of a loop that has stored f 1 to f k into out and now stores f (k + 1).
-pub fill-turn : (f : ℕ → ℕ) (out : List ℕ) (k : ℕ) → k < length out
-    → set (table f k ++ drop k out) k (f (k + 1)) ≡ table f (k + 1) ++ drop (k + 1) out
-unfolding table
-fill-turn f out k h =
-    rw (add-one k, drop-cons out k 0 h, set-at (table f k) (getD out k 0) (drop (suc k) out) (f (suc k)) k (length-table f k), append-assoc)
-
--- The whole list is stored.
-pub fill-done : (f : ℕ → ℕ) (out : List ℕ) (k : ℕ) → length out ≤ k → table f k ++ drop k out ≡ table f k
-fill-done f out k h = rw (drop-of-length-le out h) (append-nil (table f k))
-
 -- A loop that fills a list with f 1, f 2 and so on: what it has done before its turn at i.
 pub record Filled (f : ℕ → ℕ) (out₀ out : List ℕ) (i : ℕ) : Type 0 where
   pub whole : length out ≡ length out₀
@@ -113,10 +102,17 @@ unfilled f out = record { whole = refl; parts = refl }
 
 module _ {f : ℕ → ℕ} {out₀ out : List ℕ} {i : ℕ} (t : Filled f out₀ out i) where
   pub stored : (v : ℕ) → i < length out₀ → v ≡ f (i + 1) → Filled f out₀ (set out i v) (i + 1)
-  stored v l e = record { whole = length-set out i v ∙ t .whole; parts = rw (t .parts, e) (fill-turn f out₀ i l) }
+  unfolding table
+  stored v l e =
+      record {
+        whole = length-set out i v ∙ t .whole;
+        parts =
+            rw (t .parts, e, add-one i, drop-cons out₀ i 0 l)
+            (rw (set-at (table f i) (getD out₀ i 0) (drop (suc i) out₀) (f (suc i)) i (length-table f i), append-assoc));
+      }
 
   pub filled : (n : ℕ) → i ≡ n → length out₀ ≡ n → out ≡ table f n
-  filled n e l = t .parts ∙ fill-done f out₀ i (omega arith) ∙ ap (table f) e
+  filled n e l = t .parts ∙ rw (drop-of-length-le out₀ {i = i} (omega arith)) (append-nil (table f i)) ∙ ap (table f) e
 
   -- The list is stored up to n, and the rest of it is as it was.
   pub filled-front : (n : ℕ) → i ≡ n → out ≡ table f n ++ drop n out₀
@@ -125,9 +121,6 @@ module _ {f : ℕ → ℕ} {out₀ out : List ℕ} {i : ℕ} (t : Filled f out�
   -- What is not stored yet is as it was.
   pub later : (j : ℕ) → i ≤ j → getD out j 0 ≡ getD out₀ j 0
   later j l =
-      let e : i + (j - i) ≡ j = omega arith in
-      subst (λ (k : ℕ). getD out k 0 ≡ getD out₀ k 0) e
-      (ap (λ l. getD l (i + (j - i)) 0) (t .parts)
-      ∙ ap (λ k. getD (table f i ++ drop i out₀) (k + (j - i)) 0) (sym (length-table f i))
-      ∙ getD-append-add (table f i) (drop i out₀) (j - i) 0
-      ∙ getD-drop i out₀ (j - i) 0)
+      let e : length (table f i) + (j - i) ≡ j = omega (arith, length-table f i) in
+      let e′ : i + (j - i) ≡ j = omega arith in
+      rw (t .parts) (rw e at (getD-append-add (table f i) (drop i out₀) (j - i) 0) ∙ rw e′ at (getD-drop i out₀ (j - i) 0))
