@@ -3,7 +3,7 @@ use Rattle.laws.proofs.Base.{ℕ, zero, suc, _+_, _-_, _≤_, min, max, _≡_, 
 use Rattle.laws.specs.Tests.{Each}
 use Rattle.laws.proofs.Tests.{each-append}
 use Rattle.curves.specs.Pairs.{horizon, figure, Pair, ceiling, least}
-use Rattle.curves.specs.Rounds.{cutOff, newUpper, newLower, round}
+use Rattle.curves.specs.Rounds.{cutOff, round}
 use Rattle.curves.proofs.Figures.{round-upper, round-lower, new-holds}
 
 -- What f says of the entries of a list, added up.
@@ -70,30 +70,22 @@ module _ (H : ℕ) (c : Pair) where
   pub round-combined : (e : Pair) → horizon e ≡ H → Combined e → Combined (round cutOff e)
   unfolding figure
   round-combined e h m zero v = m 0 v
-  round-combined e h m (suc d) v = (
-    rw (round-upper cutOff e (suc d) (omega arith) w) upper,
-    rw (round-lower cutOff e (suc d) (omega arith) w) lower,
-  )
-    where
-      w : suc d ≤ horizon e
-      w = rw h v
-
-      upper : Combination H c 0 (suc d) (newUpper cutOff e (suc d)) 0
-      upper =
-          new-holds cutOff min (horizon e) (ceiling e) (least e) (suc d) (λ x. Combination H c 0 (suc d) x 0)
-          (λ x y p q. elim (decLe x y) [ yes l ↦ dearer p (omega arith) | no l ↦ dearer q (omega arith) ])
-          (m (suc d) v .0)
-          (λ a p q. together (m a (omega arith) .0) (m (suc d - a) (omega arith) .0) (omega arith) (omega arith))
-          (λ t p q. together (m (suc d + t) (rw h at q) .0) (m t (omega arith) .1) (omega arith) (omega arith))
-
-      lower : Combination H c (suc d) 0 0 (newLower cutOff e (suc d))
-      lower =
-          new-holds cutOff max (horizon e) (least e) (ceiling e) (suc d) (λ x. Combination H c (suc d) 0 0 x)
-          (λ x y p q. elim (decLe x y) [ yes l ↦ dearer q (omega arith) | no l ↦ dearer p (omega arith) ])
-          (m (suc d) v .1)
-          (λ a p q. together (m a (omega arith) .1) (m (suc d - a) (omega arith) .1) (omega arith) (omega arith))
-          (λ t p q.
-          elim (decLe (ceiling e t) (least e (suc d + t))) [
-            | yes l ↦ together (m (suc d + t) (rw h at q) .1) (m t (omega arith) .0) (omega arith) (omega arith)
-            | no l ↦ dearer (m (suc d) v .1) (omega arith)
-          ])
+  round-combined e h m (suc d) v =
+      let w : suc d ≤ horizon e = rw h v in (
+        rw (round-upper cutOff e (suc d) (omega arith) w)
+            (new-holds cutOff min (horizon e) (ceiling e) (least e) (suc d) (λ x. Combination H c 0 (suc d) x 0)
+            (λ x y p q. elim (decLe x y) [ yes l ↦ dearer p (omega arith) | no l ↦ dearer q (omega arith) ])
+            (m (suc d) v .0)
+            (λ a p q. together (m a (omega arith) .0) (m (suc d - a) (omega arith) .0) (omega arith) (omega arith))
+            (λ t p q. together (m (suc d + t) (rw h at q) .0) (m t (omega arith) .1) (omega arith) (omega arith))),
+        rw (round-lower cutOff e (suc d) (omega arith) w)
+            (new-holds cutOff max (horizon e) (least e) (ceiling e) (suc d) (λ x. Combination H c (suc d) 0 0 x)
+            (λ x y p q. elim (decLe x y) [ yes l ↦ dearer q (omega arith) | no l ↦ dearer p (omega arith) ])
+            (m (suc d) v .1)
+            (λ a p q. together (m a (omega arith) .1) (m (suc d - a) (omega arith) .1) (omega arith) (omega arith))
+            (λ t p q.
+            elim (decLe (ceiling e t) (least e (suc d + t))) [
+              | yes l ↦ together (m (suc d + t) (rw h at q) .1) (m t (omega arith) .0) (omega arith) (omega arith)
+              | no l ↦ dearer (m (suc d) v .1) (omega arith)
+            ])),
+      )

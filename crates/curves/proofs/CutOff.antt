@@ -7,8 +7,7 @@ use Rattle.laws.proofs.Search.{every}
 use Rattle.laws.proofs.Whole.{AtMost, parts-lt, smaller-best, smaller-pos, larger-pos, minus-pos, larger-minus}
 use Rattle.curves.specs.Pairs.{Curves, horizon, Pair, ceiling, least}
 use Rattle.curves.specs.Rounds.{whole, cutOff, given, round, newFigure, newUpper, newLower, Crossed, upperAt, lowerAt}
-use Rattle.curves.proofs.Figures.{given-horizon, given-upper, given-lower, round-horizon, round-upper, round-lower}
-use Rattle.curves.proofs.Figures.{new-old}
+use Rattle.curves.proofs.Figures.{given-horizon, given-upper, given-lower, round-horizon, round-upper, round-lower, new-old}
 use Rattle.curves.proofs.Tightened.{upper-falls, round-plus}
 
 -- A new figure of one curve, exact and cut off, where every step of its fold agrees.
@@ -81,23 +80,19 @@ module _ (c : Pair) where
   all-agree : NoneNegative → round whole exact ≡ given whole (round cutOff c)
   unfolding round given
   all-agree n =
+      let h : horizon exact ≡ horizon (round cutOff c) = given-horizon whole c ∙ sym (round-horizon cutOff c) in
+      let inner : (d : ℕ) → d ≤ horizon exact → d ≤ horizon c = λ d v. rw (given-horizon whole c) at v in
       λ i.
       record {
-        upper = table-same _ _ (horizon exact) _ horizons (λ d u v. upper-agrees d u (inner d v) (n d u (inner d v))) i;
-        lower = table-same _ _ (horizon exact) _ horizons (λ d u v. lower-agrees d u (inner d v)) i;
+        upper = table-same _ _ (horizon exact) _ h (λ d u v. upper-agrees d u (inner d v) (n d u (inner d v))) i;
+        lower = table-same _ _ (horizon exact) _ h (λ d u v. lower-agrees d u (inner d v)) i;
       }
-    where
-      horizons : horizon exact ≡ horizon (round cutOff c)
-      horizons = given-horizon whole c ∙ sym (round-horizon cutOff c)
-
-      inner : (d : ℕ) → d ≤ horizon exact → d ≤ horizon c
-      inner d v = rw (sym (given-horizon whole c)) v
 
   pub round-agrees : (round whole (given whole c) ≡ given whole (round cutOff c)) ⊎ BothCross
   round-agrees =
       ⊎-map all-agree (λ x. x)
-      (every _ BothCross (horizon c) (λ d u v. every _ BothCross (horizon c - d) (λ t p q. one d t u p (omega arith))))
-    where
-      one : (d t : ℕ) → 1 ≤ d → 1 ≤ t → d + t ≤ horizon c → (least c t ≤ ceiling c (d + t)) ⊎ BothCross
-      one d t u p q =
-          elim (decLe (least c t) (ceiling c (d + t))) [ yes h ↦ inl h | no h ↦ inr (negative-crosses d t u p q (omega arith)) ]
+      (every _ BothCross (horizon c) (λ d u v. every _ BothCross (horizon c - d) (λ t p q.
+      elim (decLe (least c t) (ceiling c (d + t))) [
+        | yes h ↦ inl h
+        | no h ↦ inr (negative-crosses d t u p (omega arith) (omega arith))
+      ])))

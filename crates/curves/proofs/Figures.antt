@@ -27,10 +27,9 @@ table-figures us = table-self (figure 0 us) us 0 (λ i h. refl)
 -- A pair with as many leasts as ceilings is its own figures.
 pub given-self : (p : Pair) → length (p .lower) ≡ length (p .upper) → given cutOff p ≡ p
 unfolding given
-given-self p e = λ i. record { upper = table-figures (p .upper) i; lower = lowers i }
-  where
-    lowers : table (λ d. least p d) (horizon p) ≡ p .lower
-    lowers = rw (sym e) (table-figures (p .lower))
+given-self p e =
+    let lowers : table (λ d. least p d) (horizon p) ≡ p .lower = rw (sym e) (table-figures (p .lower)) in
+    λ i. record { upper = table-figures (p .upper) i; lower = lowers i }
 
 -- Equality of curves is an equivalence; with both lists as long as the horizon, equal curves are one.
 module _ {N : Type 0} (z : N) where

@@ -136,8 +136,7 @@ module _ (p : Pair) (xs : List ℕ) where
     no-range l r = omega (arith, h (r .lo) .0 (r .lo-keeps))
 
   pub keeps-has-range : 1 ≤ horizon p → (x : ℕ) → Keeps p (then xs x) → Range p xs
-  keeps-has-range h x k =
-      range-from (lo p xs) (end p xs) (λ y. keeps-range p xs y h) (let l = keeps-range p xs x h .0 k in omega arith)
+  keeps-has-range h x k = range-from (lo p xs) (end p xs) (λ y. keeps-range p xs y h) (omega (arith, keeps-range p xs x h .0 k))
 
   -- With no window at all every count would do, and none is the largest.
   pub no-windows : ¬ (1 ≤ horizon p) → ¬ Range p xs

@@ -24,20 +24,16 @@ pub tells-same : {P Q : Type 0} (b : Bool) → P ↔ Q → Tells b P → Tells b
 tells-same true e t = e .0 t
 tells-same false e t = λ q. t (e .1 q)
 
--- What a comparison tells.
+-- What a test tells, from what each answer does; and so a comparison.
+told : {P : Type 0} (b : Bool) → (b ≡ true → P) → (b ≡ false → ¬ P) → Tells b P
+told true f g = f refl
+told false f g = g refl
+
 pub leb-told : (a b : ℕ) → Tells (leb a b) (a ≤ b)
-leb-told a b = go (leb a b) refl
-  where
-    go : (t : Bool) → leb a b ≡ t → Tells t (a ≤ b)
-    go true e = leb-true a b e
-    go false e = λ h. omega (arith, leb-false a b e, h)
+leb-told a b = told (leb a b) (leb-true a b) (λ e h. omega (arith, leb-false a b e))
 
 pub eqb-told : (a b : ℕ) → Tells (eqb a b) (a ≡ b)
-eqb-told a b = go (eqb a b) refl
-  where
-    go : (t : Bool) → eqb a b ≡ t → Tells t (a ≡ b)
-    go true e = eqb-true a b e
-    go false e = eqb-false a b e
+eqb-told a b = told (eqb a b) (eqb-true a b) (eqb-false a b)
 
 -- A turn of a loop that holds whether all before i are as wanted, and looks at i.
 pub all-turn : (P : ℕ → Type 0) (i : ℕ) (b t : Bool) → Tells b ((k : ℕ) → k < i → P k) → Tells t (P i)
