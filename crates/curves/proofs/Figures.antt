@@ -2,7 +2,7 @@
 -- `best` chooses, so that upper and lower are one law. Assumes nothing.
 use Rattle.laws.proofs.Base.{ℕ, zero, suc, _+_, _-_, _≤_, _<_, _≡_, refl, sym, ap, _∙_, List, arith, length, getD, ext-getD}
 use mathlib.Core.Path.{subst₂}
-use Rattle.laws.specs.Ranges.{fold, table}
+use Rattle.laws.specs.Ranges.{table}
 use Rattle.laws.proofs.Best.{IsBest, fold-holds, fold-first, fold-each}
 use Rattle.laws.proofs.Table.{length-table, getD-table, table-self, table-same}
 use Rattle.curves.specs.Pairs.{Curves, horizon, figure, Same, Pair, ceiling, least}
@@ -143,34 +143,26 @@ module _ (A : Arithmetic) where
       (fold-holds best P both (own d) _ (d - 1) old (λ a u v. plus a u (omega arith)))
       (λ t u v. minus t u (omega arith))
 
-  -- One curve's new figure: as good as each candidate, and no better than what is as good as each.
+  -- One curve's new figure: as good as each candidate.
   module _ (R : A .Number → A .Number → Type 0) (best : A .Number → A .Number → A .Number) (B : IsBest R best)
       (H : ℕ) (own other : ℕ → A .Number) (d : ℕ) where
-    sums : A .Number
-    sums = fold best (own d) (λ a. A .plus (own a) (own (d - a))) (d - 1)
-
-    new-sums : R (newFigure A best H own other d) sums
-    unfolding newFigure sums
-    new-sums = fold-first R best B sums (λ t. A .minus (own (d + t)) (other t)) (H - d)
-
     pub new-old : R (newFigure A best H own other d) (own d)
-    unfolding sums
-    new-old = B .chain _ _ _ new-sums (fold-first R best B (own d) (λ a. A .plus (own a) (own (d - a))) (d - 1))
+    unfolding newFigure
+    new-old =
+        B .chain _ _ _
+        (fold-first R best B _ (λ t. A .minus (own (d + t)) (other t)) (H - d))
+        (fold-first R best B (own d) (λ a. A .plus (own a) (own (d - a))) (d - 1))
 
     pub new-plus : (a : ℕ) → 1 ≤ a → a < d → R (newFigure A best H own other d) (A .plus (own a) (own (d - a)))
-    unfolding sums
+    unfolding newFigure
     new-plus a u v =
-        B .chain _ _ _ new-sums (fold-each R best B (own d) (λ k. A .plus (own k) (own (d - k))) (d - 1) a u (omega arith))
+        B .chain _ _ _
+        (fold-first R best B _ (λ t. A .minus (own (d + t)) (other t)) (H - d))
+        (fold-each R best B (own d) (λ k. A .plus (own k) (own (d - k))) (d - 1) a u (omega arith))
 
     pub new-minus : (t : ℕ) → 1 ≤ t → d + t ≤ H → R (newFigure A best H own other d) (A .minus (own (d + t)) (other t))
     unfolding newFigure
     new-minus t u v = fold-each R best B _ (λ k. A .minus (own (d + k)) (other k)) (H - d) t u (omega arith)
-
-    pub new-best : (z : A .Number) → R z (own d)
-        → ((a : ℕ) → 1 ≤ a → a < d → R z (A .plus (own a) (own (d - a))))
-        → ((t : ℕ) → 1 ≤ t → d + t ≤ H → R z (A .minus (own (d + t)) (other t)))
-        → R z (newFigure A best H own other d)
-    new-best z = new-holds best H own other d (R z) (B .both z)
 
   -- A least above its ceiling stays there: the one does not fall, the other does not rise.
   pub crossed-stays : (R : A .Number → A .Number → Type 0) → IsBest R (A .smaller) → IsBest (λ x y. R y x) (A .larger)

@@ -3,7 +3,7 @@ use Rattle.laws.proofs.Base.{ℕ, zero, suc, _+_, _-_, _≤_, _<_, min, max, _�
 use Rattle.laws.proofs.Best.{min-best, max-best}
 use Rattle.curves.specs.Pairs.{horizon, figure, Pair, ceiling, least}
 use Rattle.curves.specs.Rounds.{cutOff, round, Crossed}
-use Rattle.curves.proofs.Figures.{round-horizon, round-upper, round-lower, new-old, new-plus, new-minus, new-best}
+use Rattle.curves.proofs.Figures.{round-horizon, round-upper, round-lower, new-old, new-plus, new-minus, new-holds}
 
 -- No least above its ceiling, window by window.
 pub below : (c : Pair) → ¬ Crossed cutOff c → (d : ℕ) → d ≤ horizon c → least c d ≤ ceiling c d
@@ -35,9 +35,9 @@ pub round-within : (c : Pair) (d x y : ℕ) → 1 ≤ d → d ≤ horizon c → 
     → (x ≤ ceiling (round cutOff c) d) × (least (round cutOff c) d ≤ y)
 round-within c d x y u v old plus minus =
     rw (round-upper cutOff c d u v, round-lower cutOff c d u v) (
-      new-best cutOff _≤_ min min-best (horizon c) (ceiling c) (least c) d x
+      new-holds cutOff min (horizon c) (ceiling c) (least c) d (λ z. x ≤ z) (min-best .both x)
           (old .0) (λ a p q. plus a p q .0) (λ t p q. minus t p q .0),
-      new-best cutOff (λ a b. b ≤ a) max max-best (horizon c) (least c) (ceiling c) d y
+      new-holds cutOff max (horizon c) (least c) (ceiling c) d (λ z. z ≤ y) (max-best .both y)
           (old .1) (λ a p q. plus a p q .1) (λ t p q. minus t p q .1),
     )
 

@@ -15,14 +15,6 @@ fold-turn op x f (suc k) h =
     let e′ : suc k + 1 - 1 ≡ suc k = omega arith in
     rw (e, e′)
 
--- Folds over functions that agree on the range agree.
-pub fold-ext {ℓ} : {A : Type ℓ} (op : A → A → A) (x : A) (f g : ℕ → A) (n : ℕ)
-    → ((k : ℕ) → 1 ≤ k → k ≤ n → f k ≡ g k) → fold op x f n ≡ fold op x g n
-unfolding fold
-fold-ext op x f g zero h = refl
-fold-ext op x f g (suc n) h =
-    rw (fold-ext op x f g n (λ k p q. h k p (le-step q)), h (suc n) (omega arith) (le-refl (suc n)))
-
 -- A fold is carried over by a map under which each step is carried over.
 pub fold-map {ℓ} : {A B : Type ℓ} (m : A → B) (op : A → A → A) (op′ : B → B → B) (x : A) (f : ℕ → A) (f′ : ℕ → B) (n : ℕ)
     → ((k : ℕ) → 1 ≤ k → k ≤ n → (y : A) → op′ (m y) (f′ k) ≡ m (op y (f k)))
@@ -32,6 +24,11 @@ fold-map m op op′ x f f′ zero h = refl
 fold-map m op op′ x f f′ (suc n) h =
     ap (λ y. op′ y (f′ (suc n))) (fold-map m op op′ x f f′ n (λ k p q. h k p (le-step q)))
     ∙ h (suc n) (omega arith) (le-refl (suc n)) (fold op x f n)
+
+-- Folds over functions that agree on the range agree.
+pub fold-ext {ℓ} : {A : Type ℓ} (op : A → A → A) (x : A) (f g : ℕ → A) (n : ℕ)
+    → ((k : ℕ) → 1 ≤ k → k ≤ n → f k ≡ g k) → fold op x f n ≡ fold op x g n
+fold-ext op x f g n h = fold-map (λ y. y) op op x g f n (λ k p q y. ap (op y) (h k p q))
 
 -- What holds of each that is put together, and of two together where it holds of both, holds of all together.
 pub fold-holds {ℓ} : {A : Type ℓ} (op : A → A → A) (P : A → Type 0) → ((x y : A) → P x → P y → P (op x y))

@@ -1,7 +1,7 @@
 -- A search through the windows of a range: every one is as wanted, or something else is found.
 -- Assumes nothing.
-use Rattle.laws.proofs.Base.{ℕ, zero, suc, _≤_, _<_, _≡_, sym, subst, _⊎_, inl, inr, ⊎-elim, le-refl, le-step, le-suc-iff, arith}
-use native.Mathlib.Nat.{le-of-suc-le-suc, eq-or-lt-of-le}
+use Rattle.laws.proofs.Base.{ℕ, zero, suc, _≤_, _<_, sym, subst, _⊎_, inl, inr, ⊎-elim, le-refl, le-step, le-suc-iff, arith}
+use Rattle.laws.proofs.Base.{below-more}
 
 unfoldable pub every : (P : ℕ → Type 0) (Q : Type 0) (n : ℕ) → ((d : ℕ) → 1 ≤ d → d ≤ n → P d ⊎ Q) → ((d : ℕ) → 1 ≤ d → d ≤ n → P d) ⊎ Q
 every P Q zero h = inl (λ d p q. absurd (omega arith))
@@ -16,11 +16,7 @@ every P Q (suc n) h =
 
 -- What holds below n, and at n, holds below n + 1.
 pub below-suc : (P : ℕ → Type 0) (n : ℕ) → ((k : ℕ) → k < n → P k) → P n → (k : ℕ) → k < suc n → P k
-below-suc P n all last k l =
-    ⊎-elim
-    (λ e. let e′ : n ≡ k = omega arith in subst P e′ last)
-    (λ i. all k (le-of-suc-le-suc i))
-    (eq-or-lt-of-le l)
+below-suc P n all last k l = below-more P n all last k (omega arith)
 
 -- Whether all are as wanted can be told, where it can be told of each.
 unfoldable pub every? : (P : ℕ → Type 0) (n : ℕ) → ((d : ℕ) → Dec (P d)) → Dec ((d : ℕ) → 1 ≤ d → d ≤ n → P d)

@@ -1,11 +1,10 @@
 -- `table`: its length and entries, tables that agree, and the fill of a list from the front, one store a turn.
 -- Assumes nothing.
 use Rattle.laws.proofs.Base.{ℕ, zero, suc, _+_, _-_, _≤_, _<_, _≡_, refl, sym, ap, _∙_, subst, List, [], _∷_, _++_, map}
-use Rattle.laws.proofs.Base.{append-assoc, append-nil, ⊎-elim, ℕ-discrete, le-refl, le-step, le-suc-iff, add-one, arith, length}
+use Rattle.laws.proofs.Base.{append-assoc, append-nil, ⊎-elim, decLt, ℕ-discrete, le-refl, le-step, le-suc-iff, add-one, arith}
 use Rattle.laws.proofs.Base.{getD, set, drop, replicate, length-append, length-set, drop-of-length-le, List·getD-append, ext-getD}
-use Rattle.laws.proofs.Base.{getD-drop, drop-cons, set-at}
+use Rattle.laws.proofs.Base.{length, getD-drop, drop-cons, set-at}
 use mathlib.Core.List.{map-append}
-use native.Mathlib.Nat.{eq-or-lt-of-le, le-of-suc-le-suc}
 use lib.ListN.{replicate-append-replicate}
 use lib.Seq.{getD-at, getD-set-same, getD-set-other, getD-append-add}
 use Rattle.laws.specs.Ranges.{table}
@@ -21,12 +20,10 @@ pub getD-table {ℓ} : {A : Type ℓ} (f : ℕ → A) (n i : ℕ) (z : A) → i 
 unfolding table
 getD-table f zero i z h = absurd (omega arith)
 getD-table f (suc n) i z h =
-    ⊎-elim
-    (λ e. let e′ : i ≡ n = omega arith in rw e′ (getD-at (table f n) (f (suc n)) [] z n (length-table f n)))
-    (λ l.
-    let l′ : i < n = le-of-suc-le-suc l in
-    List·getD-append (table f n) (f (suc n) ∷ []) z i (rw length-table l′) ∙ getD-table f n i z l′)
-    (eq-or-lt-of-le h)
+    elim (decLt i n) [
+      | yes l ↦ List·getD-append (table f n) (f (suc n) ∷ []) z i (rw length-table l) ∙ getD-table f n i z l
+      | no l ↦ let e : i ≡ n = omega arith in rw e (getD-at (table f n) (f (suc n)) [] z n (length-table f n))
+    ]
 
 pub table-ext {ℓ} : {A : Type ℓ} (f g : ℕ → A) (n : ℕ) → ((d : ℕ) → 1 ≤ d → d ≤ n → f d ≡ g d) → table f n ≡ table g n
 unfolding table
