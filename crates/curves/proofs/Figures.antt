@@ -64,7 +64,7 @@ module _ {N : Type 0} (z : N) where
         lower = same-lists (c .lower) (e .lower) (f ∙ s .horizons ∙ sym f′) (λ d u v. s .lowers d u (rw (sym f) v)) i;
       }
 
--- Curves of one horizon that are above their leasts' ceilings where others are, of any kind of number, cross where those do.
+-- Curves of one horizon, of any two kinds of numbers: if each least above its ceiling in the one is so in the other, they cross together.
 pub crossed-moved : {A B : Arithmetic} (c : Curves (A .Number)) (e : Curves (B .Number)) → horizon c ≡ horizon e
     → ((d : ℕ) → 1 ≤ d → d ≤ horizon c → A .Below (upperAt A c d) (lowerAt A c d) → B .Below (upperAt B e d) (lowerAt B e d))
     → Crossed A c → Crossed B e

@@ -13,6 +13,7 @@ use Rattle.curves.proofs.Tightened.{upper-falls, lower-rises, round-wit
 use Rattle.curves.proofs.Agreement.{given-equal, crossed-given, equal-given, agree, tied}
 
 module _ (s : ℕ → ℕ) where
+  -- Cut off at 0: a window's sum is bounded by every candidate of a new figure, and no difference of a stream's bounds is negative.
   round-keeps : (c : Pair) → Conforms∞ c s ↔ Conforms∞ (round cutOff c) s
   round-keeps c = (
     (λ k i d u v.
@@ -45,9 +46,11 @@ module _ (s : ℕ → ℕ) where
   after-keeps zero p = equal-streams (given cutOff p) p (given-equal p)
   after-keeps (suc n) p = Iff·trans (Iff·symm (round-keeps (after cutOff n p))) (after-keeps n p)
 
+  -- A window's sum cannot be both above the least and below the ceiling.
   crossed-none : {c : Pair} → Crossed cutOff c → ¬ Conforms∞ c s
   crossed-none x k = omega (arith, x .above, k 0 (x .window) (x .positive) (x .within))
 
+-- The exact rounds have the figures of those cut off at 0, or both have crossed, and neither pair has a stream.
 pub rounds-keep-streams : RoundsKeepStreams
 rounds-keep-streams p q n h s =
     ⊎-elim
