@@ -13,7 +13,7 @@ use Rattle.curves.proofs.Tightened.{upper-falls, lower-rises, round-wit
 use Rattle.curves.proofs.Agreement.{given-equal, crossed-given, equal-given, agree, tied}
 
 module _ (s : ℕ → ℕ) where
-  -- Cut off at 0: a window's sum is bounded by every candidate of a new figure, and no difference of a stream's bounds is negative.
+  -- The sum of a window keeps to every candidate of its new figures, and the old figures are among the candidates.
   round-keeps : (c : Pair) → Conforms∞ c s ↔ Conforms∞ (round cutOff c) s
   round-keeps c = (
     (λ k i d u v.
@@ -46,7 +46,7 @@ module _ (s : ℕ → ℕ) where
   after-keeps zero p = equal-streams (given cutOff p) p (given-equal p)
   after-keeps (suc n) p = Iff·trans (Iff·symm (round-keeps (after cutOff n p))) (after-keeps n p)
 
-  -- A window's sum cannot be both above the least and below the ceiling.
+  -- No sum is at least the least of a window and at most a ceiling below it.
   crossed-none : {c : Pair} → Crossed cutOff c → ¬ Conforms∞ c s
   crossed-none x k = omega (arith, x .above, k 0 (x .window) (x .positive) (x .within))
 
