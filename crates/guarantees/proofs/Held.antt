@@ -19,20 +19,16 @@ held-fresh p = ap (λ (ys : List ℕ). record { pair = p; held = ys }) (sym (dro
 
 pub held-added : (p : Pair) (xs : List ℕ) (x : ℕ) → added (heldOf p xs) x ≡ heldOf p (then xs x)
 held-added p xs x =
+    let n = horizon p - 1 in
     ap (λ (ys : List ℕ). record { pair = p; held = ys })
     (ap (newest n) (then-newest n xs x) ∙ newest-newest (suc n) (then xs x) n (omega arith))
-  where
-    n : ℕ
-    n = horizon p - 1
 
 pub held-legal : (p : Pair) → opening p ≡ result tt → (xs : List ℕ) → Legal (heldOf p xs)
 unfolding opening
 held-legal p o xs =
     let (ys, e) = result-from (pairQuestions p) _ tt o in
-    record { lengths = ys .0; figures = ys .1 .1 .0; fewer = fewer (ys .0 .0) }
-  where
-    fewer : 1 ≤ horizon p → length (newest (horizon p - 1) xs) < horizon p
-    fewer h = omega (arith, length-newest (horizon p - 1) xs)
+    let fewer : length (newest (horizon p - 1) xs) < horizon p = omega (arith, length-newest (horizon p - 1) xs, ys .0 .0) in
+    record { lengths = ys .0; figures = ys .1 .1 .0; fewer = fewer }
 
 pub opened-positive : (p : Pair) → opening p ≡ result tt → 1 ≤ horizon p
 unfolding opening

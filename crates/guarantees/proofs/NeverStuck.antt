@@ -1,9 +1,10 @@
 -- Demand 3, its last two sentences: a generator on a closure is opened and is never refused, over any list of calls. Assumes nothing.
-use Rattle.laws.proofs.Base.{ℕ, _-_, _≤_, _≡_, refl, sym, ap, _∙_, subst, List, [], _∷_, _++_, append-assoc, append-nil, arith}
+use Rattle.laws.proofs.Base.{ℕ, _-_, _≡_, refl, _∙_, subst, List, [], _∷_, _++_, append-assoc, append-nil, arith}
+use mathlib.Core.Logic.{Iff·trans, Iff·symm}
 use Rattle.laws.specs.Tests.{Each}
 use Rattle.curves.specs.Pairs.{Pair, horizon}
 use Rattle.curves.specs.Conformance.{Conforms}
-use Rattle.curves.specs.Ticks.{then, Range}
+use Rattle.curves.specs.Ticks.{then}
 use Rattle.curves.specs.Rounds.{Causal}
 use Rattle.curves.specs.Questions.{result, refusal}
 use Rattle.curves.proofs.Asked.{said-yes}
@@ -11,13 +12,13 @@ use Rattle.curves.proofs.Closure.{one-more-tick}
 use Rattle.curves.proofs.Verdicts.{range-newest}
 use Rattle.closure.specs.Theorems.{GivesClosure, closureOf}
 use Rattle.closure.proofs.Promised.{given-passes, given-is-causal, conforms-iff-begins}
-use Rattle.history.specs.States.{viewOf}
+use Rattle.history.specs.States.{View, viewOf}
 use Rattle.bounds.specs.Bounds.{pairQuestions}
 use Rattle.history.specs.Opening.{opening, Begun}
 use Rattle.generator.specs.declared.Generator.{Generator}
-use Rattle.generator.specs.Generating.{Bounds, looking, chosen, sentFrom, sending}
+use Rattle.generator.specs.Generating.{Bounds, looking, chosen, sending}
 use Rattle.generator.specs.Answers.{sendingReply}
-use Rattle.generator.specs.Calls.{viewAfter, Call, ticked, looked, Calls, countOf, countsSent}
+use Rattle.generator.specs.Calls.{Call, ticked, looked, Calls, countsSent}
 use Rattle.generator.proofs.Said.{bounds, looking-range, generator-next}
 use Rattle.guarantees.specs.NeverStuck.{OpensOnClosure, NotRefused, NeverStuck, PassesIffHasFuture}
 use Rattle.guarantees.proofs.Held.{heldOf, held-fresh, held-legal, opened-positive}
@@ -31,36 +32,32 @@ closure-opens p found g = said-yes (pairQuestions (closureOf p found)) _ refusal
 pub opens-on-closure : OpensOnClosure
 opens-on-closure p found g o a = a .answer ∙ closure-opens p found g
 
--- ---- on a causal pair, from the stream ys on
+-- ---- on a causal pair
 module _ (q : Pair) (o : opening q ≡ result tt) (causal : Causal q) where
-  -- A conforming stream can go on, so a look shows a range and a tick sends a count of it.
-  shows : (ys : List ℕ) → Conforms q ys → (b : Bounds) × (looking (heldOf q ys) ≡ result b)
-  shows ys c =
-      let h : 1 ≤ horizon q = opened-positive q o in
-      let r : Range q (heldOf q ys .held) = range-newest q (horizon q - 1) ys (omega arith) (one-more-tick q ys h causal c .0) in
-      (bounds (r .lo) (r .hi), looking-range (heldOf q ys) (held-legal q o ys) r)
+  -- A conforming stream can go on, so a look shows a range, of which a tick sends a count.
+  shows : (v : View) (ys : List ℕ) → v ≡ heldOf q ys → Conforms q ys → (b : Bounds) × (looking v ≡ result b)
+  shows v ys s c =
+      let h = opened-positive q o in
+      let r = range-newest q (horizon q - 1) ys (omega arith) (one-more-tick q ys h causal c .0) in
+      (bounds (r .lo) (r .hi), rw s (looking-range (heldOf q ys) (held-legal q o ys) r))
 
-  sends : (ys : List ℕ) (choice : ℕ) → Conforms q ys → (x : ℕ) × (sending (heldOf q ys) choice ≡ result x)
-  sends ys choice c = let (b, e) = shows ys c in (chosen b choice, ap (λ a. sentFrom a choice) e)
-
+  -- From the stream ys on.
   never : (cs : List Call) (ys : List ℕ) (g : Generator) → viewOf (g .history) ≡ heldOf q ys → Conforms q ys → Calls g cs
       → Each NotRefused cs × Conforms q (ys ++ countsSent cs)
-  never [] ys g s c t = (tt, subst (Conforms q) (sym (append-nil ys)) c)
+  never [] ys g s c t = (tt, rw append-nil c)
   never (looked r ∷ cs) ys g s c (a, t) =
-      let (b, e) = shows ys c in
+      let (b, e) = shows (viewOf (g .history)) ys s c in
       let (all, c′) = never cs ys g s c t in
-      (((b, a ∙ ap looking s ∙ e), all), c′)
+      (((b, a ∙ e), all), c′)
   never (ticked choice r ∷ cs) ys g s c (a, t) =
-      let (x, e) = sends ys choice c in
-      let said : sendingReply (r .sending) ≡ result x = a .answer ∙ ap (λ v. sending v choice) s ∙ e in
-      let next : viewOf (r .next .history) ≡ heldOf q (then ys x) =
-      generator-next g choice r a ∙ ap (λ v. viewAfter (sending v choice) v) s ∙ sent-on q o ys choice x e in
-      let (all, c′) = never cs (then ys x) (r .next) next (sent-conforms q o ys choice x c e) t in (
-        ((x, said), all),
-        subst (Conforms q)
-            (append-assoc ys (x ∷ []) (countsSent cs) ∙ ap (λ (zs : List ℕ). ys ++ (zs ++ countsSent cs)) (sym (ap countOf said)))
-            c′,
-      )
+      let v = viewOf (g .history) in
+      let (b, l) = shows v ys s c in
+      let x = chosen b choice in
+      let e : sending v choice ≡ result x = rw l in
+      let said : sendingReply (r .sending) ≡ result x = a .answer ∙ e in
+      let next = generator-next g choice r a ∙ sent-on q o v ys s choice x e in
+      let (all, c′) = never cs (then ys x) (r .next) next (sent-conforms q o v ys s choice x c e) t in
+      (((x, said), all), rw (said, ← append-assoc ys (x ∷ []) (countsSent cs)) c′)
 
 pub never-stuck : NeverStuck
 never-stuck p found g o a cs t =
@@ -72,7 +69,4 @@ never-stuck p found g o a cs t =
 
 pub passes-iff-has-future : PassesIffHasFuture
 passes-iff-has-future p found g xs =
-    let q : Pair = closureOf p found in
-    let pass = conforms-iff-all-pass q (closure-opens p found g) xs in
-    let begin = conforms-iff-begins p found g xs in
-    ((λ a. begin .0 (pass .1 a)), (λ s. pass .0 (begin .1 s)))
+    Iff·trans (Iff·symm (conforms-iff-all-pass (closureOf p found) (closure-opens p found g) xs)) (conforms-iff-begins p found g xs)

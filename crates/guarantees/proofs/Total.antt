@@ -1,12 +1,13 @@
 -- Demand 1: refusals of the monitor and the generator. Assumes nothing.
-use Rattle.laws.proofs.Base.{ℕ, _≡_, sym, _∙_, subst, [], _∷_}
+use Rattle.laws.proofs.Base.{_≡_, [], _∷_}
+use mathlib.Core.Logic.{Iff·trans}
 use Rattle.curves.specs.Questions.{Reply, result, refusal}
-use Rattle.curves.proofs.Asked.{no-refusal, refusal-iff}
+use Rattle.curves.proofs.Asked.{refusal-iff}
 use Rattle.history.specs.States.{question12}
 use Rattle.bounds.specs.Bounds.{pairQuestions}
 use Rattle.history.specs.Opening.{opening}
-use Rattle.monitor.specs.Monitoring.{judging, MonitorNext}
-use Rattle.generator.specs.Generating.{lookQuestions, Bounds, looking, sentFrom, GeneratorNext}
+use Rattle.monitor.specs.Monitoring.{judging}
+use Rattle.generator.specs.Generating.{lookQuestions, Bounds, looking, sentFrom}
 use Rattle.guarantees.specs.Total.{OpeningRefused, JudgingRefused, LookingRefused, SendingRefused, RefusedMonitorStays}
 use Rattle.guarantees.specs.Total.{RefusedGeneratorStays}
 
@@ -23,25 +24,14 @@ unfolding looking
 looking-refused v n = refusal-iff (lookQuestions v) _ n
 
 pub sending-refused : SendingRefused
-sending-refused v choice n =
-    ((λ e. looking-refused v n .0 (there (looking v) e)), (λ f. back (looking v) (looking-refused v n .1 f)))
+sending-refused v choice n = Iff·trans (there (looking v), λ e. rw e) (looking-refused v n)
   where
     there : (a : Reply Bounds) → sentFrom a choice ≡ refusal n → a ≡ refusal n
-    there (result b) e = absurd (no-refusal _ n e)
-    there (refusal k) e = again k n e
-      where
-        again : (k m : ℕ) → _≡_ {A = Reply ℕ} (refusal k) (refusal m) → _≡_ {A = Reply Bounds} (refusal k) (refusal m)
-        again k m e = λ i. refusal (numbered (e i))
-          where
-            numbered : Reply ℕ → ℕ
-            numbered (result x) = x
-            numbered (refusal j) = j
-
-    back : (a : Reply Bounds) → a ≡ refusal n → sentFrom a choice ≡ refusal n
-    back a e = λ i. sentFrom (e i) choice
+    there (result b) e = cc
+    there (refusal k) e = cc
 
 pub refused-monitor-stays : RefusedMonitorStays
-refused-monitor-stays m x n r t e = subst (λ a. MonitorNext a m x (r .next)) (sym (t .answer) ∙ e) (t .next)
+refused-monitor-stays m x n r t e = rw (← t .answer, e) at (t .next)
 
 pub refused-generator-stays : RefusedGeneratorStays
-refused-generator-stays g choice n r t e = subst (λ a. GeneratorNext a g (r .next)) (sym (t .answer) ∙ e) (t .next)
+refused-generator-stays g choice n r t e = rw (← t .answer, e) at (t .next)
