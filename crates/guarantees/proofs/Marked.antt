@@ -1,6 +1,6 @@
 -- Document 01's marked figures hold: what is computed of each case of the list, and what it proves. Assumes nothing.
-use Rattle.laws.proofs.Base.{ℕ, _≤_, _≡_, refl, sym, _∙_, Bool, List, [], _∷_, _++_, map, ⊎-map, Dec·and, decLe, decLt, ℕ-discrete, arith}
-use Rattle.laws.proofs.Base.{length}
+use Rattle.laws.proofs.Base.{ℕ, _≤_, _≡_, refl, sym, _∙_, Bool, true, List, [], _∷_, _++_, map, ⊎-map, Dec·and, decLe, decLt, ℕ-discrete}
+use Rattle.laws.proofs.Base.{arith, length}
 use mathlib.Core.Logic.{Dec·not}
 use lib.Dec.{T}
 use Rattle.laws.specs.Ranges.{fold, table}
@@ -85,11 +85,7 @@ holds (refuses p) (ok, x) =
 holds (goesOn p xs a) (ok, pass, look) =
     (opened p ok, conforms-iff-all-pass p (opened p ok) xs .1 (rw pass (all-passed xs)), look, λ choice. rw look)
 
-abbrev AllComputed : List Case → Type 0
-AllComputed [] = Unit {0}
-AllComputed (c ∷ cs) = Computed c × AllComputed cs
-
-all-hold : (cs : List Case) → AllComputed cs → AllHold cs
+all-hold : (cs : List Case) → Each Computed cs → AllHold cs
 all-hold [] t = tt
 all-hold (c ∷ cs) (t, ts) = (holds c t, all-hold cs ts)
 
@@ -99,31 +95,5 @@ unfolding marked publishedTriples opens? ask ⊎-map every every? decLe ℕ-disc
     figure newFigure round given after rulings addedAll judging looking legal? verdict? find turned-down inside? judged? range?
     range-from decLt sum
 marked-figures =
-    all-hold marked (
-      (tt, tt),
-      (
-        (tt, tt),
-        (
-          (tt, tt),
-          (
-            (tt, tt),
-            (
-              (tt, tt),
-              (
-                (tt, tt),
-                (
-                  (tt, tt),
-                  (
-                    (tt, tt),
-                    (
-                      (tt, tt),
-                      ((tt, refl, refl), ((tt, refl, refl), ((tt, refl, refl), tt))),
-                    ),
-                  ),
-                ),
-              ),
-            ),
-          ),
-        ),
-      ),
-    )
+    let c : T true × T true = (tt, tt) in
+    all-hold marked (c, (c, (c, (c, (c, (c, (c, (c, (c, ((tt, refl, refl), ((tt, refl, refl), ((tt, refl, refl), tt))))))))))))
