@@ -1,30 +1,36 @@
 -- What a set of constraints names, and what follows of constraints that were asked in order. Assumes nothing.
-use Rattle.laws.proofs.Base.{ℕ, _≤_, _≡_, refl, sym, ap, _∙_, subst, Bool, cond, List, [], _∷_, _++_, map, append-assoc, append-nil, _⊎_}
-use Rattle.laws.proofs.Base.{inl, inr, ⊎-elim, ℕ-discrete, arith, eq-eqb, ne-eqb, length}
+use Rattle.laws.proofs.Base.{ℕ, _≤_, _≡_, refl, _∙_, List, [], _∷_, _++_, map, append-assoc, append-nil, _⊎_, inl, inr, ⊎-elim, ℕ-discrete}
+use Rattle.laws.proofs.Base.{arith, eq-eqb, ne-eqb, length}
 use Rattle.laws.specs.Tests.{Each}
 use Rattle.laws.proofs.Tests.{each-map}
 use Rattle.curves.specs.Questions.{AllYes}
 use Rattle.bounds.specs.Bounds.{maxHorizon}
 use Rattle.csv.specs.Text.{Bytes}
 use Rattle.csv.specs.Records.{Constraint, WellFormed, constraintOf, messageLimit, InRange}
-use Rattle.constraints.specs.Constraints.{New}
-use Rattle.constraints.specs.Constraints.{named, largestWindow, smallestMost}
+use Rattle.constraints.specs.Constraints.{New, named, largestWindow, smallestMost}
 use Rattle.constraints.specs.Reading.{recordQuestions}
 
 module _ {A : Type 0} (what : Constraint → A) (other : A) where
   pub named-first : (c : Constraint) (cs : List Constraint) (d : ℕ) → c .window ≡ d → named what other (c ∷ cs) d ≡ what c
   unfolding named
-  named-first c cs d e = ap (λ (b : Bool). cond b (what c) (named what other cs d)) (eq-eqb (c .window) d e)
+  named-first c cs d e = rw (eq-eqb (c .window) d e)
 
   pub named-next : (c : Constraint) (cs : List Constraint) (d : ℕ) → ¬ (c .window ≡ d) → named what other (c ∷ cs) d ≡ named what other cs d
   unfolding named
-  named-next c cs d e = ap (λ (b : Bool). cond b (what c) (named what other cs d)) (ne-eqb (c .window) d e)
+  named-next c cs d e = rw (ne-eqb (c .window) d e)
 
   -- Constraints for other windows can be left out.
   pub named-new : (earlier : List Constraint) (c : Constraint) (cs : List Constraint) → New earlier c
       → named what other (earlier ++ cs) (c .window) ≡ named what other cs (c .window)
   named-new [] c cs n = refl
   named-new (e ∷ earlier) c cs n = named-next e (earlier ++ cs) (c .window) (n .0) ∙ named-new earlier c cs (n .1)
+
+  -- And one for another window that comes last.
+  pub named-other : (cs : List Constraint) (c : Constraint) (d : ℕ) → ¬ (c .window ≡ d)
+      → named what other (cs ++ (c ∷ [])) d ≡ named what other cs d
+  unfolding named
+  named-other [] c d n = named-next c [] d n
+  named-other (e ∷ cs) c d n = rw (named-other cs c d n)
 
 -- A constraint that was asked after others is the one that is named for its window.
 pub named-own : {A : Type 0} (what : Constraint → A) (other : ℕ → A) (earlier : List Constraint) (rs : List Bytes)
@@ -33,12 +39,9 @@ pub named-own : {A : Type 0} (what : Constraint → A) (other : ℕ → A) (earl
 named-own what other earlier [] ys = tt
 named-own what other earlier (r ∷ rs) ys =
     let c = constraintOf r in
-    let cs = map constraintOf rs in (
-      named-new what (other (c .window)) earlier c (c ∷ cs) (ys .1 .1 .0) ∙ named-first what (other (c .window)) c cs (c .window) refl,
-      subst
-          (λ (all : List Constraint). Each (λ e. named what (other (e .window)) all (e .window) ≡ what e) cs)
-          (append-assoc earlier (c ∷ []) cs)
-          (named-own what other (earlier ++ (c ∷ [])) rs (ys .1 .1 .1)),
+    let o = other (c .window) in (
+      named-new what o earlier c (c ∷ map constraintOf rs) (ys .1 .1 .0) ∙ named-first what o c (map constraintOf rs) (c .window) refl,
+      rw append-assoc at (named-own what other (earlier ++ (c ∷ [])) rs (ys .1 .1 .1)),
     )
 
 -- A window is named by some constraint, which then gives all that is named for it, or by none.
@@ -60,19 +63,10 @@ named-or-not P (c ∷ cs) d ps =
 pub one-more : (earlier : List Constraint) (rs : List Bytes) (r : Bytes) → AllYes (recordQuestions earlier rs)
     → WellFormed r → InRange (constraintOf r) → New (earlier ++ map constraintOf rs) (constraintOf r)
     → AllYes (recordQuestions earlier (rs ++ (r ∷ [])))
-one-more earlier [] r ys w i n = (w, (i, (subst (λ (cs : List Constraint). New cs (constraintOf r)) (append-nil earlier) n, tt)))
-one-more earlier (x ∷ rs) r ys w i n = (
-  ys .0,
-  (
-    ys .1 .0,
-    (
-      ys .1 .1 .0,
-      one-more (earlier ++ (constraintOf x ∷ [])) rs r (ys .1 .1 .1) w i
-          (subst (λ (cs : List Constraint). New cs (constraintOf r))
-          (sym (append-assoc earlier (constraintOf x ∷ []) (map constraintOf rs))) n),
-    ),
-  ),
-)
+one-more earlier [] r ys w i n = (w, (i, (rw append-nil at n, tt)))
+one-more earlier (x ∷ rs) r ys w i n =
+    let more = one-more (earlier ++ (constraintOf x ∷ [])) rs r (ys .1 .1 .1) w i (rw append-assoc n) in
+    (ys .0, (ys .1 .0, (ys .1 .1 .0, more)))
 
 -- ---- bounds
 -- Constraints that were asked are in range, and their windows are at most the largest.

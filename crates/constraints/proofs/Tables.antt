@@ -1,7 +1,7 @@
 -- Laws of the table of constraints: what it holds, with none, with one more, and what is filled from it.
 -- Assumes nothing.
 use Rattle.laws.proofs.Base.{ℕ, suc, _+_, _-_, _*_, _≤_, min, max, _≡_, refl, sym, ap, _∙_, Bool, true, false, cond, List, [], _∷_, _++_}
-use Rattle.laws.proofs.Base.{arith, eq-eqb, ne-eqb, eqb-true, eqb-false, eqb, getD, set, replicate}
+use Rattle.laws.proofs.Base.{ℕ-discrete, arith, eqb-true, eqb-false, eqb, getD, set, replicate}
 use native.Mathlib.Nat.{mul-le-mul}
 use Rattle.laws.specs.Ranges.{table}
 use Rattle.laws.specs.Tests.{Either}
@@ -11,6 +11,7 @@ use Rattle.csv.specs.Records.{Constraint, InRange, messageLimit}
 use Rattle.constraints.specs.Constraints.{New, named, largestWindow, smallestMost}
 use Rattle.constraints.specs.Steps.{Holds, with, ceilingIn, leastIn}
 use Rattle.constraints.specs.declared.table.Table.{Table}
+use Rattle.constraints.proofs.Named.{named-first, named-next, named-new, named-other}
 
 -- ---- what one entry of a table gives
 -- The ceiling of a window that is named, and of one that is not; how large it is; the least by its index.
@@ -48,22 +49,7 @@ holds-none =
     }
 
 -- ---- one constraint more, of a window that no other names
--- Two choices of which only one is made can be asked in any order.
-exchanged : {A : Type 0} (p q : Bool) (x y z : A) → ¬ ((p ≡ true) × (q ≡ true)) → cond p x (cond q y z) ≡ cond q y (cond p x z)
-exchanged true true x y z n = absurd (n (refl, refl))
-exchanged true false x y z n = refl
-exchanged false q x y z n = refl
-
--- What a set names, its largest window and its smallest most, with one constraint more at its end.
-named-more : {A : Type 0} (what : Constraint → A) (other : A) (cs : List Constraint) (c : Constraint) (d : ℕ) → New cs c
-    → named what other (cs ++ (c ∷ [])) d ≡ cond (eqb (c .window) d) (what c) (named what other cs d)
-unfolding named
-named-more what other [] c d h = refl
-named-more what other (e ∷ cs) c d h =
-    rw (named-more what other cs c d (h .1))
-    (exchanged (eqb (e .window) d) (eqb (c .window) d) _ _ _
-    (λ k. h .0 (eqb-true (e .window) d (k .0) ∙ sym (eqb-true (c .window) d (k .1)))))
-
+-- Its largest window and its smallest most.
 largest-more : (cs : List Constraint) (c : Constraint) → max (largestWindow cs) (c .window) ≡ largestWindow (cs ++ (c ∷ []))
 largest-more [] c = omega arith
 largest-more (e ∷ cs) c = omega (arith, largest-more cs c)
@@ -78,8 +64,8 @@ module _ (t : Table) (cs : List Constraint) (c : Constraint) (h : Holds t cs) (r
       → set (table (named what other cs) maxHorizon) (c .window - 1) (what c) ≡ table (named what other (cs ++ (c ∷ []))) maxHorizon
   set-more what other new =
       table-set (named what other cs) (named what other (cs ++ (c ∷ []))) maxHorizon (c .window) (what c) (r .some) (r .window)
-      (sym (named-more what other cs c (c .window) new ∙ (rw (eq-eqb (c .window) (c .window) refl))))
-      (λ k n. sym (named-more what other cs c k new ∙ (rw (ne-eqb (c .window) k (λ e. n (sym e))))))
+      (sym (named-new what other cs c (c ∷ []) new ∙ named-first what other c [] (c .window) refl))
+      (λ k n. sym (named-other what other cs c k (λ e. n (sym e))))
 
   pub holds-more : New cs c → Holds (with t (c .window) (c .least) (c .most)) (cs ++ (c ∷ []))
   holds-more new =
@@ -120,24 +106,19 @@ names-told t cs c h i = rw (entry cs (λ x. true) false (t .named) (h .names) (c
 -- What is named, or else another value than the table's.
 named-else : {A : Type 0} (what : Constraint → A) (z other : A) (cs : List Constraint) (d : ℕ)
     → cond (named (λ c. true) false cs d) (named what z cs d) other ≡ named what other cs d
-unfolding named
-named-else what z other [] d = refl
-named-else {A = A} what z other (c ∷ cs) d = go (eqb (c .window) d) _ _ _ (named-else what z other cs d)
-  where
-    go : (b n : Bool) (x y : A) → cond n x other ≡ y → cond (cond b true n) (cond b (what c) x) other ≡ cond b (what c) y
-    go true n x y e = refl
-    go false n x y e = e
+named-else what z other [] d = unfold named in refl
+named-else what z other (c ∷ cs) d =
+    elim (ℕ-discrete (c .window) d) [ yes e ↦ simp named-first | no e ↦ simp named-next (named-else what z other cs d) ]
 
 -- What is filled from a table is what filling is to give.
 module _ (t : Table) (cs : List Constraint) (h : Holds t cs) (n : ℕ) (l : n ≤ maxHorizon) where
   pub filled-upper : table (ceilingIn t) n ≡ table (λ d. named (λ c. c .most) (d * smallestMost cs) cs d) n
-  filled-upper = table-ext _ _ n ceiling
-    where
-      ceiling : (d : ℕ) → 1 ≤ d → d ≤ n → ceilingIn t d ≡ named (λ c. c .most) (d * smallestMost cs) cs d
-      ceiling d p q =
-          let q′ : d ≤ maxHorizon = omega arith in
-          rw (entry cs (λ c. true) false (t .named) (h .names) d p q′, entry cs (λ c. c .most) 0 (t .mosts) (h .mosts) d p q′, h .smallest)
-          (named-else (λ c. c .most) 0 (d * smallestMost cs) cs d)
+  filled-upper =
+      table-ext _ _ n
+      (λ d p q.
+      let q′ : d ≤ maxHorizon = omega arith in
+      rw (entry cs (λ c. true) false (t .named) (h .names) d p q′, entry cs (λ c. c .most) 0 (t .mosts) (h .mosts) d p q′, h .smallest)
+      (named-else (λ c. c .most) 0 (d * smallestMost cs) cs d))
 
   pub filled-lower : table (leastIn t) n ≡ table (λ d. named (λ c. c .least) 0 cs d) n
   filled-lower = table-ext _ _ n (λ d p q. entry cs (λ c. c .least) 0 (t .leasts) (h .leasts) d p (omega arith))
