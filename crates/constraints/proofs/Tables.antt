@@ -1,6 +1,6 @@
 -- Laws of the table of constraints: what it holds, with none, with one more, and what is filled from it.
 -- Assumes nothing.
-use Rattle.laws.proofs.Base.{ℕ, suc, _+_, _-_, _*_, _≤_, min, max, _≡_, refl, sym, ap, _∙_, Bool, true, false, cond, List, [], _∷_, _++_}
+use Rattle.laws.proofs.Base.{ℕ, suc, _-_, _*_, _≤_, min, max, _≡_, refl, sym, ap, _∙_, Bool, true, false, cond, List, [], _∷_, _++_}
 use Rattle.laws.proofs.Base.{ℕ-discrete, arith, eqb-true, eqb-false, eqb, getD, set, replicate}
 use native.Mathlib.Nat.{mul-le-mul}
 use Rattle.laws.specs.Ranges.{table}
@@ -13,19 +13,9 @@ use Rattle.constraints.specs.Steps.{Holds, with, ceilingIn, leastIn}
 use Rattle.constraints.specs.declared.table.Table.{Table}
 use Rattle.constraints.proofs.Named.{named-first, named-next, named-new, named-other}
 
--- ---- what one entry of a table gives
--- The ceiling of a window that is named, and of one that is not; how large it is; the least by its index.
-pub ceiling-named : (t : Table) (d : ℕ) → getD (t .named) (d - 1) false ≡ true → getD (t .mosts) (d - 1) 0 ≡ ceilingIn t d
-ceiling-named t d e = rw e
-
-pub ceiling-other : (t : Table) (d : ℕ) → getD (t .named) (d - 1) false ≡ false → d * t .«smallest_most» ≡ ceilingIn t d
-ceiling-other t d e = rw e
-
+-- How large a ceiling is that is filled.
 pub product-bound : (d m : ℕ) → d ≤ maxHorizon → m ≤ messageLimit → d * m ≤ 16_776_960
 product-bound d m h l = mul-le-mul h l
-
-pub least-next : (t : Table) (i : ℕ) → getD (t .leasts) i 0 ≡ leastIn t (i + 1)
-least-next t i = let e : i + 1 - 1 ≡ i = omega arith in rw e
 
 -- ---- no constraint
 pub holds-none

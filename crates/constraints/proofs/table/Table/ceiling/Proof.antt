@@ -1,14 +1,9 @@
 -- `constraints::table::Table::ceiling` meets its contract: the product fits, as both factors are bounded.
 -- Assumes nothing.
 use Rattle.laws.proofs.Base.{arith, needs}
-use Rattle.constraints.proofs.Tables.{ceiling-named, ceiling-other, product-bound}
+use Rattle.constraints.proofs.Tables.{product-bound}
 use Rattle.constraints.proofs.table.Table.ceiling.Statement.{statement}
 use Rattle.constraints.proofs.table.Table.ceiling.Tie as tie
-
-returns : tie.Need-returns
-returns c =
-    let args = c .before .before .before .args in
-    ceiling-named (args .t1) (args .window) (c .before .if1 .taken)
 
 mul-result-2 : tie.Need-mul-result-2
 mul-result-2 c =
@@ -16,9 +11,7 @@ mul-result-2 c =
     omega (arith, product-bound (args .window) (args .t1 .«smallest_most») (omega arith) (omega arith))
 
 returns-2 : tie.Need-returns-2
-returns-2 c =
-    let args = c .before .before .args in
-    ceiling-other (args .t1) (args .window) (c .if1 .left)
+returns-2 c = rw (c .if1 .left)
 
 pub ceiling-spec : {M : Type 1} → statement M
 ceiling-spec =
@@ -29,7 +22,7 @@ ceiling-spec =
     (λ c. search needs)
     (λ c. search needs)
     (λ c. search needs)
-    returns
+    (λ c. rw (c .before .if1 .taken))
     (λ c. search needs)
     mul-result-2
     returns-2)

@@ -1,9 +1,8 @@
 -- `constraints::table::Table::fill` meets its contract: before a turn the entries before i are filled.
 -- Assumes nothing.
-use Rattle.laws.proofs.Base.{_-_, _≤_, arith, needs}
+use Rattle.laws.proofs.Base.{_+_, _-_, _≤_, _≡_, arith, needs}
 use Rattle.laws.proofs.Table.{Filled, unfilled, stored, filled-front}
 use Rattle.constraints.specs.Steps.{ceilingIn, leastIn}
-use Rattle.constraints.proofs.Tables.{least-next}
 use Rattle.constraints.proofs.table.Table.fill.Statement.{statement}
 use Rattle.constraints.proofs.table.Table.fill.Tie as tie
 
@@ -19,10 +18,11 @@ loop-holds c = (search needs, unfilled _ _, unfilled _ _)
 
 loop-again : tie.Need-loop-again Inv-loop μ-loop
 loop-again c =
-    let head = c .before .before .before .loop in (
+    let head = c .before .before .before .loop in
+    let same : head .i + 1 - 1 ≡ head .i = omega arith in (
       omega arith,
       stored (head .inv .1) _ (omega arith) (c .before .ceiling .ensures),
-      stored (head .inv .2) _ (omega arith) (least-next (c .before .before .before .before .before .before .args .t1) (head .i)),
+      stored (head .inv .2) _ (omega arith) (rw same),
     )
 
 returns : tie.Need-returns Inv-loop μ-loop
