@@ -1,7 +1,7 @@
 -- What `read` has to show at each of its ends, over a plain text and plain lists. Assumes nothing.
-use Rattle.laws.proofs.Base.{ℕ, _+_, _≤_, _≡_, refl, sym, ap, _∙_, subst, List, [], _∷_, _++_, map, inl, inr, arith, length, drop}
+use Rattle.laws.proofs.Base.{ℕ, _+_, _≤_, _≡_, refl, sym, ap, _∙_, subst, List, [], _∷_, map, inl, inr, arith, length, drop}
 use lib.ListN.{length-map}
-use Rattle.curves.specs.Pairs.{Pair, pairOf}
+use Rattle.curves.specs.Pairs.{Pair}
 use Rattle.curves.specs.Questions.{AllYes, FirstNo}
 use Rattle.curves.proofs.Asked.{yes-append, no-before, no-after}
 use Rattle.bounds.specs.Bounds.{maxHorizon}
@@ -9,13 +9,13 @@ use Rattle.csv.specs.Text.{Bytes, records}
 use Rattle.csv.proofs.Splitting.{records-first, record-short}
 use Rattle.csv.specs.Records.{constraintOf, messageLimit}
 use Rattle.constraints.specs.Constraints.{largestWindow}
-use Rattle.constraints.specs.Reading.{later, constraints, horizonOf, question6, question10, question11}
-use Rattle.constraints.specs.Reading.{recordQuestions, questions, refused, given, reading}
+use Rattle.constraints.specs.Reading.{later, constraints, horizonOf, question6, question10, question11, recordQuestions, questions}
+use Rattle.constraints.specs.Reading.{refused, given, reading}
 use Rattle.constraints.specs.Answers.{answer}
 use Rattle.constraints.specs.Steps.{Holds, filledFrom, ScannedAs, Scanned, Delivered}
 use Rattle.constraints.specs.declared.Reading.{Reading}
-use Rattle.constraints.specs.declared.Reading.the-variants.{Read, HeaderLine, RecordForm, FigureRange, WindowAgain}
-use Rattle.constraints.specs.declared.Reading.the-variants.{NoRecord, ResultLength}
+use Rattle.constraints.specs.declared.Reading.the-variants.{Read, HeaderLine, RecordForm, FigureRange, WindowAgain, NoRecord}
+use Rattle.constraints.specs.declared.Reading.the-variants.{ResultLength}
 use Rattle.constraints.specs.declared.Fault.{Fault}
 use Rattle.constraints.specs.declared.Scan.{Scan}
 use Rattle.constraints.specs.declared.table.Table.{Table}
@@ -27,8 +27,8 @@ use Rattle.constraints.proofs.Said.{refused-is, given-is}
 pub bounded : (rs : List Bytes) (b : Table) → AllYes (recordQuestions [] rs) × Holds b (map constraintOf rs)
     → (b .horizon ≤ maxHorizon) × (b .«smallest_most» ≤ messageLimit)
 bounded rs b sound = (
-  omega (arith, sound .1 .horizon, largest-bound (map constraintOf rs) (in-range [] rs (sound .0))),
-  omega (arith, sound .1 .smallest, smallest-bound (map constraintOf rs)),
+  omega (arith, largest-bound (map constraintOf rs) (in-range [] rs (sound .0))),
+  omega (arith, smallest-bound (map constraintOf rs)),
 )
 
 -- Where the largest window is 1 at least there is a record.
@@ -68,10 +68,7 @@ module _ (t : Bytes) (found : Pair) where
       whole : (h : ℕ) → h ≡ horizonOf t → filledFrom b h found ≡ given t found .results
       whole h e =
           let l : horizonOf t ≤ maxHorizon = largest-bound (constraints t) (in-range [] (later t) (sound .0)) in
-          ap (λ k. filledFrom b k found) e
-          ∙ (λ i. pairOf
-          (filled-upper b (constraints t) (sound .1) (horizonOf t) l i ++ drop (horizonOf t) (found .upper))
-          (filled-lower b (constraints t) (sound .1) (horizonOf t) l i ++ drop (horizonOf t) (found .lower)))
+          rw (e, filled-upper b _ (sound .1) (horizonOf t) l, filled-lower b _ (sound .1) (horizonOf t) l)
 
       some-window : question10 t .asked → 1 ≤ horizonOf t
       some-window y = largest-some (constraints t) (in-range [] (later t) (sound .0)) (omega (arith, y, length-map (later t) constraintOf))
@@ -79,18 +76,18 @@ module _ (t : Bytes) (found : Pair) where
       pub delivered-is : (r : Reading) (left : Pair) → Delivered b found left r → answer r left ≡ reading t found
       delivered-is (Read h) left d =
           let e : h ≡ horizonOf t = d .1 ∙ sound .1 .horizon in
-          let y₁₀ : question10 t .asked = some-records (later t) (omega (arith, d .0, e)) in
-          let y₁₁ : question11 t found .asked = (omega (arith, d .2, e), omega (arith, d .3, e)) in
+          let y₁₀ : question10 t .asked = some-records (later t) (omega arith) in
+          let y₁₁ : question11 t found .asked = (omega arith, omega arith) in
           let ys : AllYes (questions t found) = (y₆, yes-append (recordQuestions [] (later t)) _ (sound .0) (y₁₀, (y₁₁, tt))) in
           (λ i. record { number = 0; horizon = e i; results = (d .4 ∙ whole h e) i })
           ∙ sym (given-is t found ys)
       delivered-is NoRecord left d =
           ap (refused 10) (d .1)
-          ∙ no-then 10 (inl (refl, λ y. omega (arith, d .0, sound .1 .horizon, some-window y)))
+          ∙ no-then 10 (inl (refl, λ y. omega (arith, some-window y)))
       delivered-is ResultLength left d =
-          let y₁₀ : question10 t .asked = some-records (later t) (omega (arith, d .0, sound .1 .horizon)) in
+          let y₁₀ : question10 t .asked = some-records (later t) (omega arith) in
           ap (refused 11) (d .2)
-          ∙ no-then 11 (inr (y₁₀, inl (refl, λ y. d .1 (omega (arith, y .0, sound .1 .horizon), omega (arith, y .1, sound .1 .horizon)))))
+          ∙ no-then 11 (inr (y₁₀, inl (refl, λ y. d .1 (omega arith, omega arith))))
       delivered-is HeaderLine left d = absurd d
       delivered-is RecordForm left d = absurd d
       delivered-is FigureRange left d = absurd d

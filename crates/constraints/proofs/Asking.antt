@@ -9,12 +9,10 @@ use Rattle.curves.specs.Questions.{AllYes, FirstNo, result, refusal}
 use Rattle.curves.proofs.Asked.{no-before}
 use Rattle.csv.specs.Text.{Bytes, records}
 use Rattle.csv.proofs.Splitting.{rest-is, records-first, record-short}
-use Rattle.csv.specs.Records.{triple, firstRecord}
-use Rattle.records.specs.Recording.{spelt, recording}
+use Rattle.csv.specs.Records.{triple, firstRecord, Constraint, constraintOf, InRange}
+use Rattle.records.specs.Recording.{spelt, recording, question7, question8}
 use Rattle.records.proofs.Said.{refused-iff, given-from}
-use Rattle.csv.specs.Records.{Constraint, constraintOf, InRange}
 use Rattle.constraints.specs.Constraints.{New}
-use Rattle.records.specs.Recording.{question7, question8}
 use Rattle.constraints.specs.Reading.{question9, recordQuestions}
 use Rattle.constraints.specs.Steps.{Holds, with}
 use Rattle.constraints.specs.declared.table.Table.{Table}
@@ -31,28 +29,6 @@ pub record Reached (rs₀ : List Bytes) (t : Table) (rs : List Bytes) : Type 0 w
 pub reached-none : (rs : List Bytes) (t : Table) → Holds t [] → Reached rs t rs
 reached-none rs t h = record { taken = []; holds = h; all = refl; yeses = λ ys. ys; noes = λ n f. f }
 
--- The next record is refused with 7 or 8, or its window is named already, or it is taken.
-module _ (rs₀ : List Bytes) (t : Table) (r : Bytes) (rs : List Bytes) (a : Reached rs₀ t (r ∷ rs)) where
-  refused-next : (n : ℕ) → FirstNo (question7 r ∷ question8 r ∷ []) n → FirstNo (recordQuestions [] rs₀) n
-  refused-next n f =
-      a .noes n
-      (no-before (question7 r ∷ question8 r ∷ []) (question9 (a .taken) r ∷ recordQuestions (a .taken ++ (constraintOf r ∷ [])) rs) n f)
-
-  module _ (ys : AllYes (question7 r ∷ question8 r ∷ [])) where
-    again-next : ¬ New (a .taken) (constraintOf r) → FirstNo (recordQuestions [] rs₀) 9
-    again-next n = a .noes 9 (inr (ys .0, inr (ys .1 .0, inl (refl, n))))
-
-    taken-next : New (a .taken) (constraintOf r)
-        → Reached rs₀ (with t (constraintOf r .window) (constraintOf r .least) (constraintOf r .most)) rs
-    taken-next new =
-        record {
-          taken = a .taken ++ (constraintOf r ∷ []);
-          holds = holds-more t (a .taken) (constraintOf r) (a .holds) (ys .1 .0) new;
-          all = append-assoc (a .taken) (constraintOf r ∷ []) (map constraintOf rs) ∙ a .all;
-          yeses = λ more. a .yeses (ys .0, (ys .1 .0, (new, more)));
-          noes = λ n f. a .noes n (inr (ys .0, inr (ys .1 .0, inr (new, f))));
-        }
-
 -- The record that a text s has at k: it ends within the text, and the other records begin after its CR LF.
 abbrev pub recordAt : Bytes → ℕ → Bytes
 recordAt s k = firstRecord (take (length s - k) (drop k s))
@@ -62,14 +38,9 @@ record-fits s k l = rw (rest-is s k) (omega (arith, record-short (drop k s), len
 
 records-at : (s : Bytes) (k : ℕ) → k < length s → records (drop k s) ≡ recordAt s k ∷ records (drop (k + length (recordAt s k) + 2) s)
 records-at s k l =
-    rw (rest-is s k)
-    (records-first (drop k s) (omega (arith, length-drop k s)) ∙ ap (λ x. firstRecord (drop k s) ∷ records x) after)
-  where
-    n : ℕ
-    n = length (firstRecord (drop k s))
-
-    after : drop (n + 2) (drop k s) ≡ drop (k + n + 2) s
-    after = let e : k + (n + 2) ≡ k + n + 2 = omega arith in drop-drop (n + 2) k s ∙ ap (λ j. drop j s) e
+    let n = length (firstRecord (drop k s)) in
+    let e : k + (n + 2) ≡ k + n + 2 = omega arith in
+    rw (rest-is s k, records-first (drop k s) (omega (arith, length-drop k s)), drop-drop (n + 2) k s, e)
 
 -- The record r was found to be a constraint.
 module _ (r : Bytes) (w x m n : ℕ) (found : result (spelt (triple w x m) n) ≡ recording r) where
@@ -85,32 +56,47 @@ module _ (r : Bytes) (w x m n : ℕ) (found : result (spelt (triple w x m) n) �
   pub found-length : n ≡ length r
   found-length = sym (ap (λ p. p .bytes) same)
 
--- Of a text s the records up to k are taken into the table t: what follows of the one at k.
+-- Of a text s the records up to k are taken into the table t: the one at k is refused with 7 or 8, or its window is named already, or it is
+-- taken.
 module _ (s : Bytes) (rs₀ : List Bytes) (t : Table) (k : ℕ) (l : k < length s) (a : Reached rs₀ t (records (drop k s))) where
-  here : Reached rs₀ t (recordAt s k ∷ records (drop (k + length (recordAt s k) + 2) s))
+  abbrev r : Bytes
+  r = recordAt s k
+
+  here : Reached rs₀ t (r ∷ records (drop (k + length r + 2) s))
   here = subst (Reached rs₀ t) (records-at s k l) a
 
-  pub refused-at : (n : ℕ) → refusal n ≡ recording (recordAt s k) → FirstNo (recordQuestions [] rs₀) n
-  refused-at n e = refused-next rs₀ t _ _ here n (refused-iff (recordAt s k) n .0 (sym e))
+  pub refused-at : (n : ℕ) → refusal n ≡ recording r → FirstNo (recordQuestions [] rs₀) n
+  refused-at n e =
+      let others = recordQuestions (here .taken ++ (constraintOf r ∷ [])) (records (drop (k + length r + 2) s)) in
+      here .noes n (no-before (question7 r ∷ question8 r ∷ []) (question9 (here .taken) r ∷ others) n (refused-iff r n .0 (sym e)))
 
-  module _ (w x m n : ℕ) (found : result (spelt (triple w x m) n) ≡ recording (recordAt s k)) where
-    told : Either (getD (t .named) (w - 1) false) (¬ New (here .taken) (constraintOf (recordAt s k)))
-        (New (here .taken) (constraintOf (recordAt s k)))
+  module _ (w x m n : ℕ) (found : result (spelt (triple w x m) n) ≡ recording r) where
+    ys : AllYes (question7 r ∷ question8 r ∷ [])
+    ys = asked r w x m n found
+
+    told : Either (getD (t .named) (w - 1) false) (¬ New (here .taken) (constraintOf r)) (New (here .taken) (constraintOf r))
     told =
-        subst (λ p. Either (getD (t .named) (p .constraint .window - 1) false) (¬ New (here .taken) (constraintOf (recordAt s k)))
-        (New (here .taken) (constraintOf (recordAt s k))))
-        (same (recordAt s k) w x m n found)
-        (names-told t (here .taken) (constraintOf (recordAt s k)) (here .holds) (asked (recordAt s k) w x m n found .1 .0))
+        subst (λ p. Either (getD (t .named) (p .constraint .window - 1) false) (¬ New (here .taken) (constraintOf r))
+        (New (here .taken) (constraintOf r)))
+        (same r w x m n found)
+        (names-told t (here .taken) (constraintOf r) (here .holds) (ys .1 .0))
 
     pub again-at : getD (t .named) (w - 1) false ≡ true → FirstNo (recordQuestions [] rs₀) 9
-    again-at e = again-next rs₀ t _ _ here (asked (recordAt s k) w x m n found) (either-true _ _ _ e told)
+    again-at e = here .noes 9 (inr (ys .0, inr (ys .1 .0, inl (refl, either-true _ _ _ e told))))
 
     pub onward-at : getD (t .named) (w - 1) false ≡ false → Reached rs₀ (with t w x m) (records (drop (k + n + 2) s))
     onward-at e =
+        let new = either-false _ _ _ e told in
         subst
         (λ p. let c = p .constraint in Reached rs₀ (with t (c .window) (c .least) (c .most)) (records (drop (k + p .bytes + 2) s)))
-        (same (recordAt s k) w x m n found)
-        (taken-next rs₀ t _ _ here (asked (recordAt s k) w x m n found) (either-false _ _ _ e told))
+        (same r w x m n found)
+        (record {
+          taken = here .taken ++ (constraintOf r ∷ []);
+          holds = holds-more t (here .taken) (constraintOf r) (here .holds) (ys .1 .0) new;
+          all = append-assoc (here .taken) (constraintOf r ∷ []) _ ∙ here .all;
+          yeses = λ more. here .yeses (ys .0, (ys .1 .0, (new, more)));
+          noes = λ n f. here .noes n (inr (ys .0, inr (ys .1 .0, inr (new, f))));
+        })
 
 -- No record is left.
 pub reached-end : (s : Bytes) (rs₀ : List Bytes) (t : Table) (k : ℕ) → length s ≤ k → Reached rs₀ t (records (drop k s))
