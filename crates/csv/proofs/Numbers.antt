@@ -17,18 +17,6 @@ pub digits-step : (k n : ℕ) → 10 ≤ n → lastDigits (suc k) n ≡ lastDigi
 unfolding lastDigits
 digits-step k n h = rw (le-ltb n 10 h)
 
--- What holds of a digit, and of a text with one digit more where it holds of the text, holds of the digits of every number.
-pub digits-ind
-    : (P : ℕ → Bytes → Type 0) → ((n : ℕ) → n < 10 → P n ((48 + n) ∷ []))
-    → ((n : ℕ) (t : Bytes) → 10 ≤ n → P (n / 10) t → P n (t ++ ((48 + n % 10) ∷ [])))
-    → (k n : ℕ) → n < k → P n (lastDigits k n)
-digits-ind P one more zero n h = absurd (omega arith)
-digits-ind P one more (suc k) n h =
-    elim (decLe 10 n) [
-      | yes g ↦ rw (digits-step k n g) (more n (lastDigits k (n / 10)) g (digits-ind P one more k (n / 10) (omega arith)))
-      | no g ↦ let s : n < 10 = omega arith in rw (digits-small k n s) (one n s)
-    ]
-
 -- More places than needed change nothing.
 digits-enough : (k j n : ℕ) → n < k → n < j → lastDigits k n ≡ lastDigits j n
 digits-enough zero j n h g = absurd (omega arith)
@@ -74,23 +62,28 @@ one-digit n h =
 one-more : (n : ℕ) (t : Bytes) → 10 ≤ n → Spells (n / 10) t → Spells n (t ++ ((48 + n % 10) ∷ []))
 one-more n t h s =
     record {
-      some = omega (arith, longer);
-      few = λ k p q. fits k p q;
+      some = simp length-append (omega arith);
+      few = fits;
       digits = each-append Digit t _ (s .digits) (omega arith, tt);
       spelt = value-snoc 0 t _ ∙ rw (s .spelt) (omega arith);
       no-zero = λ p e. s .no-zero (omega arith) (sym (List·getD-append t _ 0 0 (s .some)) ∙ e);
     }
   where
-    longer : length (t ++ ((48 + n % 10) ∷ [])) ≡ length t + 1
-    longer = length-append t _
-
     fits : (k : ℕ) → 1 ≤ k → n < 10 ^ k → length (t ++ ((48 + n % 10) ∷ [])) ≤ k
     fits zero p q = absurd (omega arith)
     fits (suc zero) p q = absurd (omega arith)
-    fits (suc (suc k)) p q = omega (arith, longer, s .few (suc k) (omega arith) (omega (arith, pow-suc 10 (suc k))))
+    fits (suc (suc k)) p q = simp length-append (omega (arith, s .few (suc k) (omega arith) (omega (arith, pow-suc 10 (suc k)))))
+
+spells-in : (k n : ℕ) → n < k → Spells n (lastDigits k n)
+spells-in zero n h = absurd (omega arith)
+spells-in (suc k) n h =
+    elim (decLe 10 n) [
+      | yes g ↦ rw (digits-step k n g) (one-more n (lastDigits k (n / 10)) g (spells-in k (n / 10) (omega arith)))
+      | no g ↦ let s : n < 10 = omega arith in rw (digits-small k n s) (one-digit n s)
+    ]
 
 spells : (n : ℕ) → Spells n (decimal n)
-spells n = digits-ind Spells one-digit one-more (suc n) n (omega arith)
+spells n = spells-in (suc n) n (omega arith)
 
 pub value-decimal : (n : ℕ) → value (decimal n) ≡ n
 value-decimal n = spells n .spelt
@@ -105,9 +98,6 @@ decimal-some n = spells n .some
 pub decimal-few : (n k : ℕ) → 1 ≤ k → n < 10 ^ k → length (decimal n) ≤ k
 decimal-few n k p q = spells n .few k p q
 
-pub decimal-no-zero : (n : ℕ) → 1 ≤ n → ¬ (getD (decimal n) 0 0 ≡ 48)
-decimal-no-zero n h = spells n .no-zero h
-
 -- A number of up to five digits is written as a text may have it.
 pub numeral-decimal : (n : ℕ) → n ≤ 99_999 → Numeral (decimal n)
 numeral-decimal n h =
@@ -117,7 +107,7 @@ numeral-decimal n h =
       digits = decimal-digits n;
       no-leading-zero =
           elim (decLe 1 n) [
-            | yes p ↦ inr (decimal-no-zero n p)
+            | yes p ↦ inr (spells n .no-zero p)
             | no p ↦ inl (ap length (decimal-small n (omega arith)))
           ];
     }

@@ -1,8 +1,8 @@
 -- Splitting: the first record of a text and the first field of a record, byte by byte, and what follows them.
 -- Assumes nothing.
-use Rattle.laws.proofs.Base.{ℕ, suc, _+_, _-_, _≤_, _<_, _≡_, refl, sym, ap, _∙_, Bool, true, false, _&&_, cond, List, [], _∷_, _++_}
-use Rattle.laws.proofs.Base.{append-assoc, append-nil, Dec·and, ℕ-discrete, le-refl, sub-zero, add-one, arith, eq-eqb, ne-eqb, eqb-true}
-use Rattle.laws.proofs.Base.{eqb, length, getD, take, drop, length-drop, drop-of-length-le, drop-cons, take-suc, take-all}
+use Rattle.laws.proofs.Base.{ℕ, suc, _+_, _-_, _≤_, _<_, _≡_, refl, ap, Bool, true, false, _&&_, cond, List, [], _∷_, _++_, append-assoc}
+use Rattle.laws.proofs.Base.{append-nil, Dec·and, ℕ-discrete, le-refl, sub-zero, add-one, arith, eq-eqb, ne-eqb, eqb-true, eqb, length}
+use Rattle.laws.proofs.Base.{getD, take, drop, length-drop, drop-of-length-le, drop-cons, take-suc, take-all}
 use Rattle.csv.specs.Text.{Bytes, comma, cr, lf, onFirst, records, fields}
 
 -- The rest of a text, as a slice is cut.
@@ -22,17 +22,13 @@ module _ {Stop : Bytes → Type 0} {first : Bytes → Bytes} (splits : Splits St
     pub passed-more : n < length s → ¬ Stop (drop n s) → first s ≡ take (n + 1) s ++ first (drop (n + 1) s)
     passed-more l away =
         let here : drop n s ≡ getD s n 0 ∷ drop (n + 1) s = rw (add-one n, drop-cons s n 0 l) in
-        let away′ : ¬ Stop (getD s n 0 ∷ drop (n + 1) s) = rw here at away in
-        passed ∙ ap (λ t. take n s ++ first t) here ∙ ap (λ t. take n s ++ t) (splits .goes _ _ away′)
-        ∙ (rw (add-one n, take-suc s n 0 l, append-assoc))
+        rw (passed, here, splits .goes _ _ (rw here at away), add-one n, take-suc s n 0 l, append-assoc)
 
     pub passed-found : Stop (drop n s) → take (n - 0) s ≡ first s
-    passed-found here = rw (sub-zero n) (sym (passed ∙ ap (λ t. take n s ++ t) (splits .stops _ here) ∙ append-nil (take n s)))
+    passed-found here = rw (sub-zero n, passed, splits .stops _ here, append-nil)
 
     pub passed-all : length s ≤ n → s ≡ first s
-    passed-all l =
-        sym (passed ∙ ap (λ t. take n s ++ first t) (drop-of-length-le s l) ∙ ap (λ t. take n s ++ t) (splits .none)
-        ∙ append-nil (take n s) ∙ take-all n s l)
+    passed-all l = rw (passed, drop-of-length-le s l, splits .none, append-nil, take-all n s l)
 
 -- The first part, after a byte is put before it.
 first-of : (b : ℕ) (rs : List Bytes) → getD (onFirst b rs) 0 [] ≡ b ∷ getD rs 0 []
@@ -71,11 +67,14 @@ splits-fields = record { none = refl; stops = stops; goes = goes }
     goes : (b : ℕ) (s : Bytes) → ¬ (b ≡ comma) → getD (fields (b ∷ s)) 0 [] ≡ b ∷ getD (fields s) 0 []
     goes b s n = rw (ne-eqb b comma n) (first-of b (fields s))
 
--- A byte more before the first part changes nothing of what follows it, which begins k bytes after that part.
-followed : (split : Bytes → List Bytes) (k b : ℕ) (s : Bytes) (rs : List Bytes)
-    → rs ≡ getD rs 0 [] ∷ split (drop (length (getD rs 0 []) + k) s)
-    → onFirst b rs ≡ getD (onFirst b rs) 0 [] ∷ split (drop (length (getD (onFirst b rs) 0 []) + k) (b ∷ s))
-followed split k b s [] e = let z : _≡_ {A = ℕ} 0 1 = cc in absurd (omega arith)
+-- The parts rs of s are the first, and those of what follows it, which begins k bytes after that part.
+abbrev Followed : (Bytes → List Bytes) → ℕ → Bytes → List Bytes → Type 0
+Followed split k s rs = rs ≡ getD rs 0 [] ∷ split (drop (length (getD rs 0 []) + k) s)
+
+-- A byte more before the first part changes nothing of what follows.
+followed : (split : Bytes → List Bytes) (k b : ℕ) (s : Bytes) (rs : List Bytes) → Followed split k s rs
+    → Followed split k (b ∷ s) (onFirst b rs)
+followed split k b s [] e = cc
 followed split k b s (r ∷ rs) e =
     let more : length (b ∷ r) + k ≡ suc (length r + k) = omega arith in
     let rest : rs ≡ split (drop (length r + k) s) = cc in
@@ -88,14 +87,10 @@ unfolding records
 records-first [] h = absurd (omega arith)
 records-first (b ∷ []) h = refl
 records-first (b ∷ c ∷ s) h =
-    go (followed records 2 b (c ∷ s) (records (c ∷ s)) (records-first (c ∷ s) (omega arith))) (eqb b cr && eqb c lf)
-  where
-    Followed : List Bytes → Type 0
-    Followed rs = rs ≡ getD rs 0 [] ∷ records (drop (length (getD rs 0 []) + 2) (b ∷ c ∷ s))
-
-    go : Followed (onFirst b (records (c ∷ s))) → (t : Bool) → Followed (cond t ([] ∷ records s) (onFirst b (records (c ∷ s))))
-    go e true = refl
-    go e false = e
+    elim (eqb b cr && eqb c lf) as (λ t. Followed records 2 (b ∷ c ∷ s) (cond t ([] ∷ records s) (onFirst b (records (c ∷ s))))) [
+      | true ↦ refl
+      | false ↦ followed records 2 b (c ∷ s) (records (c ∷ s)) (records-first (c ∷ s) (omega arith))
+    ]
 
 -- The fields of a record are its first, and those of what follows its comma, if it has one.
 pub record Fielded (r : Bytes) (fs : List Bytes) : Type 0 where
@@ -105,18 +100,16 @@ pub record Fielded (r : Bytes) (fs : List Bytes) : Type 0 where
 pub fields-first : (r : Bytes) → Fielded r (fields r)
 unfolding fields
 fields-first [] = record { more = λ n. absurd (n refl); last = λ e. refl }
-fields-first (b ∷ r) = go (fields-first r) (eqb b comma)
-  where
-    go : Fielded r (fields r) → (t : Bool) → Fielded (b ∷ r) (cond t ([] ∷ fields r) (onFirst b (fields r)))
-    go h true = record { more = λ n. refl; last = λ e. absurd (omega arith) }
-    go h false =
-        record {
-          more = λ n. followed fields 1 b r (fields r) (h .more (λ e. n (rw first-of (ap suc e))));
-          last =
-              λ e.
-              let e′ : length (b ∷ getD (fields r) 0 []) ≡ length (b ∷ r) = rw first-of at e in
-              rw (h .last (omega arith));
-        }
+fields-first (b ∷ r) =
+    let h = fields-first r in
+    elim (eqb b comma) as (λ t. Fielded (b ∷ r) (cond t ([] ∷ fields r) (onFirst b (fields r)))) [
+      | true ↦ record { more = λ n. refl; last = λ e. absurd (omega arith) }
+      | false ↦
+          record {
+            more = λ n. followed fields 1 b r (fields r) (h .more (λ e. n (rw first-of (ap suc e))));
+            last = λ e. let e′ = rw first-of at e in rw (h .last (omega (arith, e′)));
+          }
+    ]
 
 -- A first part is no longer than the whole.
 module _ {Stop : Bytes → Type 0} {first : Bytes → Bytes} (splits : Splits Stop first) (stop? : (s : Bytes) → Dec (Stop s)) where

@@ -1,14 +1,13 @@
 -- Laws over plain bytes: the fields of a record as the code cuts them, and what they were found to be.
 -- Assumes nothing.
-use Rattle.laws.proofs.Base.{ℕ, _+_, _-_, _≤_, _≡_, refl, sym, ap, _∙_, subst, [], _∷_, inl, inr, ℕ-discrete, arith, length, getD, take}
-use Rattle.laws.proofs.Base.{drop}
+use Rattle.laws.proofs.Base.{ℕ, _+_, _-_, _≤_, _≡_, refl, sym, ap, [], _∷_, inl, inr, ℕ-discrete, arith, length, getD, take, drop}
 use Rattle.laws.specs.Tests.{Each}
-use Rattle.curves.specs.Questions.{result, refusal}
+use Rattle.curves.specs.Questions.{refusal}
 use Rattle.csv.specs.Text.{Bytes, fields}
 use Rattle.csv.specs.Numbers.{Digit, Numeral, valueAfter, value}
 use Rattle.csv.proofs.Splitting.{rest-is, fields-first, field-short}
-use Rattle.csv.specs.Records.{triple, WellFormed, constraintOf, InRange}
-use Rattle.records.specs.Recording.{spelt, recording}
+use Rattle.csv.specs.Records.{WellFormed}
+use Rattle.records.specs.Recording.{recording}
 use Rattle.records.specs.Answers.{recordReply}
 use Rattle.records.specs.Steps.{firstField, Numbered, Ranged, Numerals, Figured}
 use Rattle.records.specs.declared.Number.the-variants.{Value}
@@ -50,12 +49,10 @@ module _ (r f : Bytes) (first : f ≡ firstField r) where
 
   -- It is the only one, or the others are those of what follows the comma, as the code cuts it.
   pub fields-one : length f ≡ length r → fields r ≡ f ∷ []
-  fields-one e = fields-first r .last (sym (ap length first) ∙ e) ∙ ap (λ g. g ∷ []) (sym first)
+  fields-one e = rw first (fields-first r .last (rw first at e))
 
   pub fields-more : ¬ (length f ≡ length r) → fields r ≡ f ∷ fields (take (length r - (length f + 1)) (drop (length f + 1) r))
-  fields-more n =
-      fields-first r .more (λ e. n (ap length first ∙ e)) ∙ ap (λ g. g ∷ fields (drop (length g + 1) r)) (sym first)
-      ∙ ap (λ s. f ∷ fields s) (sym (rest-is r (length f + 1)))
+  fields-more n = rw (rest-is r (length f + 1), first) (fields-first r .more (rw first at n))
 
 fields-some : (r : Bytes) → 1 ≤ length (fields r)
 fields-some r =
@@ -85,18 +82,12 @@ module _ (r f : Bytes) where
       three-fields l v found = go v found
         where
           all : fields r ≡ f ∷ g ∷ h ∷ []
-          all = e ∙ ap (λ x. f ∷ x) (k ∙ ap (λ x. g ∷ x) l)
+          all = cc
 
           form : Numerals f g h → WellFormed r
-          form n = (ap length all, subst (Each Numeral) (sym all) (n .0, (n .1, (n .2, tt))))
-
-          figures : constraintOf r ≡ triple (value f) (value g) (value h)
-          figures = ap (λ fs. triple (value (getD fs 0 [])) (value (getD fs 1 [])) (value (getD fs 2 []))) all
+          form n = rw all (refl, (n .0, (n .1, (n .2, tt))))
 
           go : (v : Record) → Figured f g h (length r) v → recordReply v ≡ recording r
-          go (Spells w x m n) (y, q) =
-              sym (given-is r (form y, (subst InRange (sym figures) (q .0), tt))
-              ∙ (λ i. result (spelt ((figures ∙ sym (λ j. triple (q .1 j) (q .2 j) (q .3 j))) i) (sym (q .4) i))))
-          go Malformed n =
-              malformed r (λ w. let d = subst (Each Numeral) all (w .1) in n (d .0, d .1 .0, d .1 .1 .0))
-          go OutOfRange (y, q) = sym (refused-iff r 8 .1 (inr (form y, inl (refl, λ i. q (subst InRange figures i)))))
+          go (Spells w x m n) (y, q) = rw (given-is r (form y, (rw all (q .0), tt)), all, q .1, q .2, q .3, q .4)
+          go Malformed n = malformed r (λ w. let d = rw all at (w .1) in n (d .0, d .1 .0, d .1 .1 .0))
+          go OutOfRange (y, q) = sym (refused-iff r 8 .1 (inr (form y, inl (refl, λ i. q (rw all at i)))))

@@ -16,18 +16,6 @@ many k = subst NamesWindow (k .verdict .given .1) (k .before .before .pre)
 few : (k : tie.After-verdict2) → k .verdict2 .given .0 .0 ≤ maxHorizon
 few k = subst NamesWindow (k .verdict2 .given .1) (k .before .before .pre)
 
-cast-result : tie.Need-cast-result
-cast-result c = omega (arith, many (c .before))
-
-add-result : tie.Need-add-result
-add-result c = omega (arith, many (c .before))
-
-cast-result-2 : tie.Need-cast-result-2
-cast-result-2 c = omega (arith, few (c .before))
-
-add-result-2 : tie.Need-add-result-2
-add-result-2 c = omega (arith, few (c .before))
-
 abbrev code : Verdict → ℕ
 code v = rulingCode (verdictReply v)
 
@@ -43,11 +31,11 @@ verdict-code-spec =
     (tie.spec
     (λ c. search needs)
     (λ c. search needs)
-    cast-result
-    add-result
+    (λ c. omega (arith, many (c .before)))
+    (λ c. omega (arith, many (c .before)))
     (λ c. search needs)
-    cast-result-2
-    add-result-2
+    (λ c. omega (arith, few (c .before)))
+    (λ c. omega (arith, few (c .before)))
     (λ c. search needs)
     (λ c. search needs)
     (λ c. search needs)
