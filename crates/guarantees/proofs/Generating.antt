@@ -56,7 +56,9 @@ no-count-iff-none-passes v l =
   where
     none : (looking v ≡ refusal 13) ↔ ((x : ℕ) → ¬ Passes v x)
     none = (
-      λ e x q. no-refusal _ 13 (sym (looking-range v l (keeps-has-range (v .pair) (v .held) (l .lengths .0) x (passes-iff v l x .0 q))) ∙ e),
+      λ e x q.
+          let r = keeps-has-range (v .pair) (v .held) (l .lengths .0) x (passes-iff v l x .0 q) in
+          no-refusal _ 13 (sym (looking-range v l r) ∙ e),
       λ n. looking-none v l (λ r. n (r .lo) (passes-iff v l (r .lo) .1 (r .lo-keeps))),
     )
 

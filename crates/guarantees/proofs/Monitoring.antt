@@ -34,7 +34,10 @@ turns-down-iff-outside v x l =
     go n (tooFew d) r = (d, r .0 .judged, r .0 .outside)
 
 -- A monitor that has failed stays so.
-failed-stays : (v : View) → Legal v → (xs : List ℕ) → Each (λ r. r ≡ result alreadyFailed) (rulings (monitorView v true) xs)
+abbrev AllFailed : MonitorView → List ℕ → Type 0
+AllFailed w xs = Each (λ r. r ≡ result alreadyFailed) (rulings w xs)
+
+failed-stays : (v : View) → Legal v → (xs : List ℕ) → AllFailed (monitorView v true) xs
 unfolding rulings
 failed-stays v l [] = tt
 failed-stays v l (x ∷ xs) =
@@ -85,11 +88,11 @@ module _ (p : Pair) (o : opening p ≡ result tt) where
 
   -- A tick that is not passed sets the mark.
   failed-after : (w : MonitorView) (ys xs : List ℕ) (x : ℕ) → w ≡ after ys → Each IsPassed (rulings w xs)
-      → (¬ Each IsPassed (rulings w (then xs x))) → (zs : List ℕ) → Each (λ r. r ≡ result alreadyFailed) (rulings (afterTicks w (then xs x)) zs)
+      → (¬ Each IsPassed (rulings w (then xs x))) → (zs : List ℕ) → AllFailed (afterTicks w (then xs x)) zs
   unfolding rulings afterTicks
   failed-after w ys [] x s es n zs = go (verdict? p (then ys x) .0) (right-of-all w ys s x _ .1 (verdict? p (then ys x) .1))
     where
-      go : (v : Verdict) → judging w x ≡ result (judged v) → Each (λ r. r ≡ result alreadyFailed) (rulings (afterTick w x) zs)
+      go : (v : Verdict) → judging w x ≡ result (judged v) → AllFailed (afterTick w x) zs
       go passed e = absurd (n (e, tt))
       go (tooMany d) e = rw (e, s) (failed-stays (heldOf p ys) (held-legal p o ys) zs)
       go (tooFew d) e = rw (e, s) (failed-stays (heldOf p ys) (held-legal p o ys) zs)

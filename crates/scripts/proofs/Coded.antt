@@ -51,7 +51,8 @@ module _ (o : Opening) (a : Reply (Unit {0})) (told : openingReply o ≡ a) (r :
 
 -- ---- verdicts
 -- A verdict that was found is that of a legal state that had not failed, and it is right: a window that it judges is within the horizon.
-judged-within : (v : View) (b : Bool) (x : ℕ) (u : Verdict) (d : ℕ) → (Right (v .pair) (then (v .held) x) u → Judged (v .pair) (then (v .held) x) d)
+judged-within : (v : View) (b : Bool) (x : ℕ) (u : Verdict) (d : ℕ)
+    → (Right (v .pair) (then (v .held) x) u → Judged (v .pair) (then (v .held) x) d)
     → result (judged u) ≡ judging (monitorView v b) x → d ≤ maxHorizon
 judged-within v b x u d names e =
     elim (legal? v) [
