@@ -23,17 +23,11 @@ loop-holds c = spelling-none _
 
 returns-5 : tie.Need-returns-5 Inv-loop μ-loop
 returns-5 c =
-    no-numeral _ (spelling-ends _ _ _ (c .before .before .before .loop .inv) (omega arith) (λ d. omega (arith, d .0, c .if5 .taken)))
+    no-numeral _ (spelling-ends _ _ _ (c .before .before .before .loop .inv) (omega arith) (λ d. omega (arith, c .if5 .taken)))
 
 returns-6 : tie.Need-returns-6 Inv-loop μ-loop
 returns-6 c =
-    no-numeral _ (spelling-ends _ _ _ (c .before .before .before .before .loop .inv) (omega arith) (λ d. omega (arith, d .1, c .if6 .taken)))
-
-mul-value : tie.Need-mul-value Inv-loop μ-loop
-mul-value c = omega (arith, spelling-fits _ _ _ (c .before .before .before .before .loop .inv) (omega arith))
-
-add-value : tie.Need-add-value Inv-loop μ-loop
-add-value c = omega (arith, spelling-fits _ _ _ (c .before .before .before .before .loop .inv) (omega arith))
+    no-numeral _ (spelling-ends _ _ _ (c .before .before .before .before .loop .inv) (omega arith) (λ d. omega (arith, c .if6 .taken)))
 
 loop-again : tie.Need-loop-again Inv-loop μ-loop
 loop-again c =
@@ -59,9 +53,9 @@ parse-number-spec =
     (λ c. search needs)
     returns-5
     returns-6
-    mul-value
+    (λ c. omega (arith, spelling-fits _ _ _ (c .before .before .before .before .loop .inv) (omega arith)))
     (λ c. search needs)
-    add-value
+    (λ c. omega (arith, spelling-fits _ _ _ (c .before .before .before .before .loop .inv) (omega arith)))
     (λ c. search needs)
     (λ c. search needs)
     loop-again
