@@ -71,7 +71,7 @@ module _ (p : Pair) where
   unfolding fold table line row records
   text-records zero s = refl
   text-records (suc n) s =
-      rw (append-assoc, text-records n _, records-join (rowOf (suc n)) s (row-no-cr _ _ _), append-assoc (table rowOf n))
+      rw (append-assoc _ (line (suc n) _ _) s, text-records n _, records-join (rowOf (suc n)) s (row-no-cr _ _ _), append-assoc (table rowOf n))
 
   text-is : records (textOf p) ≡ header ∷ table rowOf (horizon p)
   unfolding textOf records
