@@ -6,7 +6,7 @@ use lib.Dec.{T}
 use Rattle.laws.specs.Ranges.{fold, table}
 use Rattle.laws.proofs.Search.{every, every?}
 use Rattle.laws.proofs.Table.{length-table}
-use Rattle.laws.proofs.Tests.{each?, equal-lists?}
+use Rattle.laws.proofs.Tests.{each?, each-map, equal-lists?}
 use Rattle.laws.specs.Tests.{Each}
 use Rattle.curves.specs.Pairs.{Pair, horizon, figure, Equal}
 use Rattle.curves.specs.Ticks.{passed}
@@ -34,7 +34,7 @@ use Rattle.monitor.specs.Calls.{rulings}
 use Rattle.generator.specs.Generating.{looking}
 use Rattle.generator.specs.Calls.{addedAll}
 use Rattle.guarantees.specs.Exact.{unfailed}
-use Rattle.guarantees.specs.Marked.{publishedTriples, Case, reads, closes, refuses, goesOn, Holds, AllHold, marked, MarkedFigures}
+use Rattle.guarantees.specs.Marked.{publishedTriples, Case, reads, closes, refuses, goesOn, Holds, marked, MarkedFigures}
 use Rattle.guarantees.proofs.Monitoring.{conforms-iff-all-pass}
 
 -- Questions 1, 2 and 4, which the result lists have no part in.
@@ -85,10 +85,6 @@ holds (refuses p) (ok, x) =
 holds (goesOn p xs a) (ok, pass, look) =
     (opened p ok, conforms-iff-all-pass p (opened p ok) xs .1 (rw pass (all-passed xs)), look, λ choice. rw look)
 
-all-hold : (cs : List Case) → Each Computed cs → AllHold cs
-all-hold [] t = tt
-all-hold (c ∷ cs) (t, ts) = (holds c t, all-hold cs ts)
-
 pub marked-figures : MarkedFigures
 unfolding marked publishedTriples opens? ask ⊎-map every every? decLe ℕ-discrete Dec·and left? crossed? equal? same? runs? arrives?
     crosses? crosses-by? records fields valueAfter named each? digit? numeral? wellFormed? inRange? Dec·not equal-lists? fold table
@@ -96,4 +92,5 @@ unfolding marked publishedTriples opens? ask ⊎-map every every? decLe ℕ-disc
     range-from decLt sum
 marked-figures =
     let c : T true × T true = (tt, tt) in
-    all-hold marked (c, (c, (c, (c, (c, (c, (c, (c, (c, ((tt, refl, refl), ((tt, refl, refl), ((tt, refl, refl), tt))))))))))))
+    each-map Computed Holds marked holds
+    (c, (c, (c, (c, (c, (c, (c, (c, (c, ((tt, refl, refl), ((tt, refl, refl), ((tt, refl, refl), tt))))))))))))

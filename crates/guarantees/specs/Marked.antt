@@ -3,6 +3,7 @@ use Prim.Native.Nat.{ℕ, _≤_}
 use mathlib.Core.Path.{_≡_}
 use mathlib.Core.List.{List, [], _∷_, _++_}
 use lib.ListN.{length}
+use Rattle.laws.specs.Tests.{Each}
 use Rattle.curves.specs.Pairs.{Pair, pairOf, horizon, Equal}
 use Rattle.curves.specs.Conformance.{Conforms}
 use Rattle.curves.specs.Questions.{Reply, result, refusal}
@@ -40,10 +41,6 @@ Holds (goesOn p xs a) =
     let sent : View = addedAll (fresh p) xs in
     (opening p ≡ result tt) × Conforms p xs × (looking sent ≡ a) × ((choice : ℕ) → sending sent choice ≡ sentFrom a choice)
 
-abbrev pub AllHold : List Case → Type 0
-AllHold [] = Unit {0}
-AllHold (c ∷ cs) = Holds c × AllHold cs
-
 unfoldable pub marked : List Case
 marked =
     closes (pairOf (7 ∷ []) (2 ∷ [])) 0 (pairOf (7 ∷ []) (2 ∷ []))
@@ -61,4 +58,4 @@ marked =
     ∷ []
 
 abbrev pub MarkedFigures : Type 0
-MarkedFigures = AllHold marked
+MarkedFigures = Each Holds marked
