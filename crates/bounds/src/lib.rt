@@ -2,7 +2,6 @@
 
 ghost use Rattle.laws.specs.Tests.{Tells};
 ghost use Rattle.curves.specs.Pairs.{pairOf};
-ghost use Rattle.curves.specs.Rounds.{cutOff, Crossed};
 ghost use Rattle.bounds.specs.Bounds.{Bounded};
 ghost use Rattle.bounds.specs.Answers.{Found};
 
@@ -14,39 +13,46 @@ const FIGURE_LIMIT: u32 = 16_776_960;
 // What asking questions 1, 2 and 4 finds: all are answered yes, or one is the first that is answered no.
 pub enum Asked {
     Passes,
-    // 1: the ceiling list is not 1 to 256 long.
+    // 1: the upper list is not 1 to 256 long.
     UpperLength,
-    // 2: the least list has another length.
+    // 2: the lower list has another length.
     LowerLength,
     // 4: a figure is above 16,776,960.
     FigureLimit,
 }
 
-// Asks them of the pair of `ceilings` and `leasts`.
-pub fn ask(ceilings: &[u32], leasts: &[u32]) -> Asked
-    ensures { λ r. ⌜ Found (pairOf (now (ceilings .entry)) (now (leasts .entry))) r ⌝ }
+// Asks them of the pair of `upper` (ceilings) and `lower` (leasts).
+pub fn ask(upper: &[u32], lower: &[u32]) -> Asked
+    ensures { λ r. ⌜ Found (pairOf (now (upper .entry)) (now (lower .entry))) r ⌝ }
 {
-    let horizon = ceilings.len();
+    let horizon = upper.len();
     if horizon < 1 {
         return Asked::UpperLength;
     }
     if MAX_HORIZON < horizon {
         return Asked::UpperLength;
     }
-    if leasts.len() != horizon {
+    if lower.len() != horizon {
         return Asked::LowerLength;
     }
-    if !within_limit(ceilings) {
-        return Asked::FigureLimit;
-    }
-    if !within_limit(leasts) {
+    if !within_limit(upper, lower) {
         return Asked::FigureLimit;
     }
     Asked::Passes
 }
 
-// Whether no figure of a list is above 16,776,960. Without an early way out the compiler can take several figures a turn.
-pub fn within_limit(figures: &[u32]) -> bool
+// Whether no figure of two lists is above 16,776,960: what questions 4 and 12 ask of figures.
+pub fn within_limit(upper: &[u32], lower: &[u32]) -> bool
+    ensures { λ r. ⌜ Tells r (Bounded (now (upper .entry)) × Bounded (now (lower .entry))) ⌝ }
+{
+    if bounded(upper) {
+        return bounded(lower);
+    }
+    false
+}
+
+// The same of one list. Without an early way out the compiler can take several figures a turn.
+fn bounded(figures: &[u32]) -> bool
     ensures { λ r. ⌜ Tells r (Bounded (now (figures .entry))) ⌝ }
 {
     let mut within = true;
@@ -56,21 +62,4 @@ pub fn within_limit(figures: &[u32]) -> bool
         i += 1;
     }
     within
-}
-
-// Whether some least is above its ceiling. A least that is missing counts as 0.
-pub fn crossed(upper: &[u32], lower: &[u32]) -> bool
-    ensures { λ r. ⌜ Tells r (Crossed cutOff (pairOf (now (upper .entry)) (now (lower .entry)))) ⌝ }
-{
-    let mut i = 0;
-    while i < upper.len() {
-        if lower.len() <= i {
-            return false;
-        }
-        if upper[i] < lower[i] {
-            return true;
-        }
-        i += 1;
-    }
-    false
 }

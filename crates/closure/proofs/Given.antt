@@ -3,16 +3,16 @@ use Rattle.laws.proofs.Base.{ℕ, _≤_, _≡_, sym, ap, _∙_, subst⁻¹, Lis
 use Rattle.laws.specs.Ranges.{table}
 use Rattle.laws.proofs.Table.{length-table}
 use Rattle.curves.specs.Streams.{countLimit, Stream, sum}
-use Rattle.curves.specs.Pairs.{Pair, horizon, ceiling, least, Equal}
+use Rattle.curves.specs.Pairs.{Pair, horizon, upperAt, lowerAt, Equal}
 use Rattle.curves.specs.Conformance.{Conforms∞}
-use Rattle.curves.specs.Rounds.{whole, cutOff, given, Arrives}
+use Rattle.curves.specs.Rounds.{whole, cutOff, figuresOf, Arrives}
 use Rattle.curves.specs.Theorems.{Closes}
 use Rattle.curves.proofs.Figures.{same-sym, given-full}
 use Rattle.curves.proofs.Agreement.{given-equal}
 use Rattle.curves.proofs.Arrival.{arrives-or-crosses}
 use Rattle.curves.proofs.Kept.{crossed-has-no-stream}
 use Rattle.curves.proofs.Closure.{arrives-equal, closure-horizon, closure-begins}
-use Rattle.closure.specs.Closing.{refused, closed, closing}
+use Rattle.closure.specs.Closing.{refusedClosing, closed, closing}
 use Rattle.closure.specs.Theorems.{PassesFour, GivesClosure, closureOf, ClosureIsArrivedAt, RefusedIffNoStream, ElseClosed}
 use Rattle.closure.proofs.Said.{refused-is, closed-is, closed-equal, fifth, gives-passes}
 
@@ -31,12 +31,12 @@ module _ (p found : Pair) (g : GivesClosure p found) where
   answer-is = closed-is p found n q (gives-passes p found g .0) at-q
 
   -- The first entries are the closure's figures.
-  closure-is : closureOf p found ≡ given cutOff q
-  unfolding given
+  closure-is : closureOf p found ≡ figuresOf cutOff q
+  unfolding figuresOf
   closure-is =
       λ i. record {
-        upper = (ap (λ a. take (horizon p) (a .results .upper)) answer-is ∙ front (ceiling q) _) i;
-        lower = (ap (λ a. take (horizon p) (a .results .lower)) answer-is ∙ front (least q) _) i;
+        upper = (ap (λ a. take (horizon p) (a .results .upper)) answer-is ∙ front (upperAt q) _) i;
+        lower = (ap (λ a. take (horizon p) (a .results .lower)) answer-is ∙ front (lowerAt q) _) i;
       }
     where
       front : (f : ℕ → ℕ) (rest : List ℕ) → take (horizon p) (table f (horizon q) ++ rest) ≡ table f (horizon q)
@@ -88,14 +88,14 @@ some-stream p found ok a =
 pub refused-iff-no-stream : RefusedIffNoStream
 refused-iff-no-stream p found ok = (there, back)
   where
-    there : closing p found ≡ refused 5 found → (s : Stream) → Conforms∞ p (s .counts) → ⊥
+    there : closing p found ≡ refusedClosing 5 found → (s : Stream) → Conforms∞ p (s .counts) → ⊥
     there e s c =
         ⊎-elim
         (λ a. omega (arith, ap (λ r. r .number) (sym (closed-is p found (a .0) (a .1) ok (a .2)) ∙ e)))
         (λ x. crossed-has-no-stream p (x .0) (x .1 .crossed) (s .counts) c)
         (arrives-or-crosses p)
 
-    back : ((s : Stream) → Conforms∞ p (s .counts) → ⊥) → closing p found ≡ refused 5 found
+    back : ((s : Stream) → Conforms∞ p (s .counts) → ⊥) → closing p found ≡ refusedClosing 5 found
     back none =
         refused-is p found 5 (fifth p found ok (λ a. none (some-stream p found ok a .0) (some-stream p found ok a .1)))
 

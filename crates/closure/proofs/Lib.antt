@@ -2,4 +2,7 @@
 pub mod Said
 pub mod Given
 pub mod Promised
+mod Rounding
+mod Running
+mod Progress
 mod Answered

@@ -1,9 +1,9 @@
 -- Theorems 5 to 8 over what `closing` says. Assumes nothing.
 use Rattle.laws.proofs.Base.{ℕ, _≤_, _≡_, sym, ap, _∙_, _↔_, arith}
 use mathlib.Core.Logic.{Iff·trans, Iff·symm}
-use Rattle.curves.specs.Streams.{Stream, Begins, sum}
-use Rattle.curves.specs.Pairs.{Pair, horizon, ceiling, least, Equal}
-use Rattle.curves.specs.Conformance.{Inside, Conforms, Conforms∞}
+use Rattle.curves.specs.Streams.{Stream, sum}
+use Rattle.curves.specs.Pairs.{Pair, horizon, upperAt, lowerAt, Equal}
+use Rattle.curves.specs.Conformance.{Inside, Conforms, Conforms∞, Extendable}
 use Rattle.curves.specs.Rounds.{Causal}
 use Rattle.curves.proofs.Figures.{same-sym}
 use Rattle.curves.proofs.Arrival.{arrives-once}
@@ -23,13 +23,13 @@ use Rattle.closure.specs.Closing.{closing}
 use Rattle.closure.specs.Theorems.{
   GivesClosure,
   closureOf,
-  FollowsCeilings,
-  FollowsLeasts,
+  FollowsUpper,
+  FollowsLower,
   FiguresMet,
-  ConformsIffBegins,
+  ConformsIffExtendable,
   EqualIffSameStreams,
   GivenIsCausal,
-  GivenPasses,
+  ClosurePasses,
   ClosedAgain,
   CausalIffGivenBack,
 }
@@ -37,32 +37,32 @@ use Rattle.closure.proofs.Said.{closed-is, gives-passes}
 use Rattle.closure.proofs.Given.{arrived, positive-horizon, given-horizon, given-even, streamOf}
 
 -- ---- 5
-pub follows-ceilings : FollowsCeilings
-follows-ceilings p found g =
+pub follows-upper : FollowsUpper
+follows-upper p found g =
     let (s, c, f) = closure-upper p (closureOf p found) _ (arrived p found g) (positive-horizon p found g) in
     (streamOf p found (gives-passes p found g .0) s c, c, f)
 
-pub follows-leasts : FollowsLeasts
-follows-leasts p found g =
+pub follows-lower : FollowsLower
+follows-lower p found g =
     let (s, c, f) = closure-lower p (closureOf p found) _ (arrived p found g) (positive-horizon p found g) in
     (streamOf p found (gives-passes p found g .0) s c, c, f)
 
 pub figures-met : FiguresMet
 figures-met p found g d u v =
-    let (s, c, f) = follows-ceilings p found g in
-    let (t, k, h) = follows-leasts p found g in
+    let (s, c, f) = follows-upper p found g in
+    let (t, k, h) = follows-lower p found g in
     ((s, c, (0, f d v)), (t, k, (0, h d v)))
 
 -- ---- 6
-pub conforms-iff-begins : ConformsIffBegins
-conforms-iff-begins p found g xs = (there, back)
+pub conforms-iff-extendable : ConformsIffExtendable
+conforms-iff-extendable p found g xs = (there, back)
   where
-    there : Conforms (closureOf p found) xs → (s : Stream) × Begins xs (s .counts) × Conforms∞ p (s .counts)
+    there : Conforms (closureOf p found) xs → Extendable p xs
     there k =
         let (s, b, c) = closure-begins p (closureOf p found) _ (arrived p found g) (positive-horizon p found g) xs k in
         (streamOf p found (gives-passes p found g .0) s c, b, c)
 
-    back : (s : Stream) × Begins xs (s .counts) × Conforms∞ p (s .counts) → Conforms (closureOf p found) xs
+    back : Extendable p xs → Conforms (closureOf p found) xs
     back (s, b, c) =
         begins-closure p (closureOf p found) _ (arrived p found g) (positive-horizon p found g) xs (s .counts) b c
 
@@ -73,11 +73,11 @@ given-streams p found g = closure-streams p (closureOf p found) _ (arrived p fou
 module _ (p found p′ found′ : Pair) (g : GivesClosure p found) (g′ : GivesClosure p′ found′) (h : horizon p ≡ horizon p′) where
   -- A pair with no stream but those of another has a closure no looser than the other's: its streams meet its figures.
   pub no-looser : ((s : Stream) → Conforms∞ p (s .counts) → Conforms∞ p′ (s .counts)) → (d : ℕ) → 1 ≤ d → d ≤ horizon p
-      → (ceiling (closureOf p found) d ≤ ceiling (closureOf p′ found′) d)
-      × (least (closureOf p′ found′) d ≤ least (closureOf p found) d)
+      → (upperAt (closureOf p found) d ≤ upperAt (closureOf p′ found′) d)
+      × (lowerAt (closureOf p′ found′) d ≤ lowerAt (closureOf p found) d)
   no-looser more d u v =
-      let (s, c, f) = follows-ceilings p found g in
-      let (t, k, f′) = follows-leasts p found g in
+      let (s, c, f) = follows-upper p found g in
+      let (t, k, f′) = follows-lower p found g in
       omega (arith, other s (more s c), f d v, other t (more t k), f′ d v)
     where
       other : (s : Stream) → Conforms∞ p′ (s .counts) → Inside (closureOf p′ found′) d (sum (s .counts) 0 d)
@@ -102,8 +102,8 @@ equal-iff-same-streams p found p′ found′ g g′ h = (there, back)
         }
       where
         both : (d : ℕ) → 1 ≤ d → d ≤ horizon p
-            → (ceiling (closureOf p found) d ≡ ceiling (closureOf p′ found′) d)
-            × (least (closureOf p found) d ≡ least (closureOf p′ found′) d)
+            → (upperAt (closureOf p found) d ≡ upperAt (closureOf p′ found′) d)
+            × (lowerAt (closureOf p found) d ≡ lowerAt (closureOf p′ found′) d)
         both d u v =
             omega (
               arith,
@@ -115,8 +115,8 @@ equal-iff-same-streams p found p′ found′ g g′ h = (there, back)
 pub given-is-causal : GivenIsCausal
 given-is-causal p found g = closure-is-causal p (closureOf p found) _ (arrived p found g)
 
-pub given-passes : GivenPasses
-given-passes p found g =
+pub closure-passes : ClosurePasses
+closure-passes p found g =
     let ok = gives-passes p found g .0 in
     let is = given-horizon p found g in
     let even = given-even p found g in
@@ -137,7 +137,7 @@ given-passes p found g =
 
 pub closed-again : ClosedAgain
 closed-again p found again g u v =
-    let ok = given-passes p found g in
+    let ok = closure-passes p found g in
     let is = given-horizon p found g in
     closed-is (closureOf p found) again 0 (closureOf p found) (ok .0, (ok .1 .0, ((omega arith, omega arith), (ok .1 .1 .0, tt))))
     (causal-takes-no-round (closureOf p found) (given-is-causal p found g))

@@ -2,14 +2,14 @@
 -- Assumes nothing.
 use Rattle.laws.proofs.Base.{ℕ, _≡_, refl, _++_, _⊎_, inl, inr, ⊎-elim, arith, drop}
 use Rattle.laws.proofs.Table.{table-same}
-use Rattle.curves.specs.Pairs.{Pair, ceiling, least, Equal}
+use Rattle.curves.specs.Pairs.{Pair, upperAt, lowerAt, Equal}
 use Rattle.curves.specs.Rounds.{whole, Arrives}
 use Rattle.curves.specs.Questions.{AllYes, FirstNo, ask}
 use Rattle.curves.specs.Theorems.{Closes}
 use Rattle.curves.proofs.Asked.{said-no, said-yes, Positive, no-iff, yes-iff}
 use Rattle.curves.proofs.Arrival.{arrives-once}
-use Rattle.closure.specs.Closing.{questions, refused, closed, closing}
-use Rattle.closure.specs.Theorems.{PassesFour, GivesWhatArrives, RefusedIffFirstNo, GivesClosure, ClosureIffAllYes}
+use Rattle.closure.specs.Closing.{closingQuestions, refusedClosing, closed, closing}
+use Rattle.closure.specs.Theorems.{PassesFour, GivesWhatArrives, ClosingRefused, GivesClosure, ClosureIffAllYes}
 
 -- The answer depends on the closure's figures only.
 pub closed-equal : (found : Pair) (m n : ℕ) (q r : Pair) → m ≡ n → Equal q r → closed m q found ≡ closed n r found
@@ -19,56 +19,56 @@ closed-equal found m n q r e s =
       rounds = e i;
       results =
           record {
-            upper = table-same (ceiling q) (ceiling r) _ _ (s .horizons) (s .uppers) i ++ drop (s .horizons i) (found .upper);
-            lower = table-same (least q) (least r) _ _ (s .horizons) (s .lowers) i ++ drop (s .horizons i) (found .lower);
+            upper = table-same (upperAt q) (upperAt r) _ _ (s .horizons) (s .uppers) i ++ drop (s .horizons i) (found .upper);
+            lower = table-same (lowerAt q) (lowerAt r) _ _ (s .horizons) (s .lowers) i ++ drop (s .horizons i) (found .lower);
           };
     }
 
 module _ (p found : Pair) where
-  pub refused-is : (n : ℕ) → FirstNo (questions p found) n → closing p found ≡ refused n found
+  pub refused-is : (n : ℕ) → FirstNo (closingQuestions p found) n → closing p found ≡ refusedClosing n found
   unfolding closing
-  refused-is n f = said-no (questions p found) _ (λ k. refused k found) n f
+  refused-is n f = said-no (closingQuestions p found) _ (λ k. refusedClosing k found) n f
 
-  all-yes : PassesFour p found → Closes p → AllYes (questions p found)
+  all-yes : PassesFour p found → Closes p → AllYes (closingQuestions p found)
   all-yes ok c = (ok .0, (ok .1 .0, (ok .1 .1 .0, (ok .1 .1 .1 .0, (c, tt)))))
 
-  passed : AllYes (questions p found) → PassesFour p found × Closes p
+  passed : AllYes (closingQuestions p found) → PassesFour p found × Closes p
   passed ys = ((ys .0, (ys .1 .0, (ys .1 .1 .0, (ys .1 .1 .1 .0, tt)))), ys .1 .1 .1 .1 .0)
 
   pub closed-is : (n : ℕ) (q : Pair) → PassesFour p found → Arrives whole p n q → closing p found ≡ closed n q found
   unfolding closing
-  closed-is n q ok a = said-yes (questions p found) _ _ (closed n q found) (all-yes ok (n, q, a)) same
+  closed-is n q ok a = said-yes (closingQuestions p found) _ _ (closed n q found) (all-yes ok (n, q, a)) same
     where
-      same : (ys : AllYes (questions p found)) → closed (ys .1 .1 .1 .1 .0 .0) (ys .1 .1 .1 .1 .0 .1) found ≡ closed n q found
+      same : (ys : AllYes (closingQuestions p found)) → closed (ys .1 .1 .1 .1 .0 .0) (ys .1 .1 .1 .1 .0 .1) found ≡ closed n q found
       same ys =
           let c : Closes p = ys .1 .1 .1 .1 .0 in
           let one = arrives-once p (c .1) q (c .0) n (c .2) a in
           closed-equal found (c .0) n (c .1) q (one .0) (one .1)
 
   -- Question 5 is the first that is answered no.
-  pub fifth : PassesFour p found → ¬ Closes p → FirstNo (questions p found) 5
+  pub fifth : PassesFour p found → ¬ Closes p → FirstNo (closingQuestions p found) 5
   fifth ok no₅ = inr (ok .0, inr (ok .1 .0, inr (ok .1 .1 .0, inr (ok .1 .1 .1 .0, inl (refl, no₅)))))
 
   -- A question is answered no, or the lists pass and the rounds arrive.
-  pub cases : ((n : ℕ) × FirstNo (questions p found) n) ⊎ (PassesFour p found × Closes p)
-  cases = ⊎-elim (λ ys. inr (passed ys)) inl (ask (questions p found))
+  pub cases : ((n : ℕ) × FirstNo (closingQuestions p found) n) ⊎ (PassesFour p found × Closes p)
+  cases = ⊎-elim (λ ys. inr (passed ys)) inl (ask (closingQuestions p found))
 
 -- ---- the statements
-positive-numbers : (p found : Pair) → Positive (questions p found)
+positive-numbers : (p found : Pair) → Positive (closingQuestions p found)
 positive-numbers p found = (omega arith, (omega arith, (omega arith, (omega arith, (omega arith, tt)))))
 
 pub gives-what-arrives : GivesWhatArrives
 gives-what-arrives p found n q ok a = closed-is p found n q ok a
 
-pub refused-iff-first-no : RefusedIffFirstNo
+pub closing-refused : ClosingRefused
 unfolding closing
-refused-iff-first-no p found =
-    no-iff (questions p found) _ (λ k. refused k found) (λ x. x .number) (λ k. refl) (λ ys. refl) (positive-numbers p found)
+closing-refused p found =
+    no-iff (closingQuestions p found) _ (λ k. refusedClosing k found) (λ x. x .number) (λ k. refl) (λ ys. refl) (positive-numbers p found)
 
 pub closure-iff-all-yes : ClosureIffAllYes
 unfolding closing
 closure-iff-all-yes p found =
-    yes-iff (questions p found) _ (λ k. refused k found) (λ x. x .number) (λ k. refl) (λ ys. refl) (positive-numbers p found)
+    yes-iff (closingQuestions p found) _ (λ k. refusedClosing k found) (λ x. x .number) (λ k. refl) (λ ys. refl) (positive-numbers p found)
 
 -- Where a closure is given, the lists pass and the rounds arrive.
 pub gives-passes : (p found : Pair) → GivesClosure p found → PassesFour p found × Closes p

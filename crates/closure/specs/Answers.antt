@@ -3,25 +3,25 @@ use Prim.Native.Nat.{ℕ}
 use Rattle.curves.specs.Pairs.{Pair}
 use Rattle.closure.specs.declared.Closing.{Closing}
 use Rattle.closure.specs.declared.Closing.the-variants.{Closed, UpperLength, LowerLength, ResultLength, FigureLimit, NoClosure}
-use Rattle.closure.specs.Closing.{Answer}
+use Rattle.closure.specs.Closing.{ClosingAnswer}
 
-abbrev pub numberOf : Closing → ℕ
-numberOf (Closed n) = 0
-numberOf UpperLength = 1
-numberOf LowerLength = 2
-numberOf ResultLength = 3
-numberOf FigureLimit = 4
-numberOf NoClosure = 5
+abbrev pub closingNumber : Closing → ℕ
+closingNumber (Closed n) = 0
+closingNumber UpperLength = 1
+closingNumber LowerLength = 2
+closingNumber ResultLength = 3
+closingNumber FigureLimit = 4
+closingNumber NoClosure = 5
 
 -- The rounds that are counted; 0 on a refusal.
-abbrev pub roundsIn : Closing → ℕ
-roundsIn (Closed n) = n
-roundsIn UpperLength = 0
-roundsIn LowerLength = 0
-roundsIn ResultLength = 0
-roundsIn FigureLimit = 0
-roundsIn NoClosure = 0
+abbrev pub closingRounds : Closing → ℕ
+closingRounds (Closed n) = n
+closingRounds UpperLength = 0
+closingRounds LowerLength = 0
+closingRounds ResultLength = 0
+closingRounds FigureLimit = 0
+closingRounds NoClosure = 0
 
 -- What a call that returns this case, and leaves the result lists so, has answered.
-abbrev pub answer : Closing → Pair → Answer
-answer r left = record { number = numberOf r; rounds = roundsIn r; results = left }
+abbrev pub closingAnswer : Closing → Pair → ClosingAnswer
+closingAnswer r left = record { number = closingNumber r; rounds = closingRounds r; results = left }

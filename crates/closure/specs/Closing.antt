@@ -4,7 +4,7 @@ use Prim.Native.Nat.{ℕ}
 use mathlib.Core.List.{List, [], _∷_, _++_}
 use lib.ListN.{drop}
 use Rattle.laws.specs.Ranges.{table}
-use Rattle.curves.specs.Pairs.{Pair, horizon, ceiling, least}
+use Rattle.curves.specs.Pairs.{Pair, horizon, upperAt, lowerAt}
 use Rattle.curves.specs.Questions.{Question, answerTo}
 use Rattle.curves.specs.Theorems.{Closes}
 use Rattle.curves.proofs.Arrival.{closes?}
@@ -18,11 +18,11 @@ question3 p found = record { number = 3; asked = RoomFor (horizon p) found; answ
 abbrev pub question5 : Pair → Question
 question5 p = record { number = 5; asked = Closes p; answered = closes? p }
 
-abbrev pub questions : Pair → Pair → List Question
-questions p found = question1 p ∷ question2 p ∷ question3 p found ∷ question4 p ∷ question5 p ∷ []
+abbrev pub closingQuestions : Pair → Pair → List Question
+closingQuestions p found = question1 p ∷ question2 p ∷ question3 p found ∷ question4 p ∷ question5 p ∷ []
 
 -- What closing answers, with the two result lists as it leaves them.
-pub record Answer : Type 0 where
+pub record ClosingAnswer : Type 0 where
   -- The number of the refusal; 0 where there is none.
   pub number : ℕ
   -- The count of rounds that changed a figure.
@@ -30,25 +30,25 @@ pub record Answer : Type 0 where
   pub results : Pair
 
 -- A refusal: its number, nothing else, and the result lists as found.
-abbrev pub refused : ℕ → Pair → Answer
-refused n found = record { number = n; rounds = 0; results = found }
+abbrev pub refusedClosing : ℕ → Pair → ClosingAnswer
+refusedClosing n found = record { number = n; rounds = 0; results = found }
 
 -- The closure q in the first H entries of the result lists; the others as found.
-abbrev pub closed : ℕ → Pair → Pair → Answer
+abbrev pub closed : ℕ → Pair → Pair → ClosingAnswer
 closed n q found =
     record {
       number = 0;
       rounds = n;
       results =
           record {
-            upper = table (ceiling q) (horizon q) ++ drop (horizon q) (found .upper);
-            lower = table (least q) (horizon q) ++ drop (horizon q) (found .lower);
+            upper = table (upperAt q) (horizon q) ++ drop (horizon q) (found .upper);
+            lower = table (lowerAt q) (horizon q) ++ drop (horizon q) (found .lower);
           };
     }
 
 -- Closing the pair p: the first question that is answered no gives its number, else the answer to question 5 gives the closure.
-unfoldable pub closing : Pair → Pair → Answer
+unfoldable pub closing : Pair → Pair → ClosingAnswer
 closing p found =
-    answerTo (questions p found)
+    answerTo (closingQuestions p found)
     (λ yeses. let fifth : Closes p = yeses .1 .1 .1 .1 .0 in closed (fifth .0) (fifth .1) found)
-    (λ n. refused n found)
+    (λ n. refusedClosing n found)

@@ -4,13 +4,13 @@ use mathlib.Core.Path.{_≡_}
 use mathlib.Core.List.{List, [], _∷_}
 use mathlib.Core.Logic.{_↔_, _⊎_}
 use lib.ListN.{length}
-use Rattle.curves.specs.Streams.{Stream, Begins, sum}
-use Rattle.curves.specs.Pairs.{Pair, horizon, first, ceiling, least, Equal}
-use Rattle.curves.specs.Conformance.{Conforms, Conforms∞, MetIn}
+use Rattle.curves.specs.Streams.{Stream, sum}
+use Rattle.curves.specs.Pairs.{Pair, horizon, first, upperAt, lowerAt, Equal}
+use Rattle.curves.specs.Conformance.{Conforms, Conforms∞, Extendable, MetIn}
 use Rattle.curves.specs.Rounds.{whole, Arrives, Causal}
 use Rattle.curves.specs.Questions.{AllYes, FirstNo}
 use Rattle.bounds.specs.Bounds.{question1, question2, question4, pairQuestions}
-use Rattle.closure.specs.Closing.{question3, questions, refused, closed, closing}
+use Rattle.closure.specs.Closing.{question3, closingQuestions, refusedClosing, closed, closing}
 
 -- The lists pass questions 1 to 4: those of the pair p, with result lists found to hold `found`.
 abbrev pub PassesFour : Pair → Pair → Type 0
@@ -35,29 +35,29 @@ ClosureIsArrivedAt =
     × (closing p found ≡ closed (closing p found .rounds) (closureOf p found) found)
 
 -- ---- 4. Demand 1: refused with n exactly when question n is the first that is answered no; else a closure is given.
-abbrev pub RefusedIffFirstNo : Type 0
-RefusedIffFirstNo = (p found : Pair) (n : ℕ) → ((1 ≤ n) × (closing p found ≡ refused n found)) ↔ FirstNo (questions p found) n
+abbrev pub ClosingRefused : Type 0
+ClosingRefused = (p found : Pair) (n : ℕ) → ((1 ≤ n) × (closing p found ≡ refusedClosing n found)) ↔ FirstNo (closingQuestions p found) n
 
 abbrev pub ClosureIffAllYes : Type 0
-ClosureIffAllYes = (p found : Pair) → GivesClosure p found ↔ AllYes (questions p found)
+ClosureIffAllYes = (p found : Pair) → GivesClosure p found ↔ AllYes (closingQuestions p found)
 
 -- Demand 3, its second sentence.
 abbrev pub RefusedIffNoStream : Type 0
 RefusedIffNoStream =
-    (p found : Pair) → PassesFour p found → (closing p found ≡ refused 5 found) ↔ ((s : Stream) → Conforms∞ p (s .counts) → ⊥)
+    (p found : Pair) → PassesFour p found → (closing p found ≡ refusedClosing 5 found) ↔ ((s : Stream) → Conforms∞ p (s .counts) → ⊥)
 
 abbrev pub ElseClosed : Type 0
-ElseClosed = (p found : Pair) → PassesFour p found → (closing p found ≡ refused 5 found) ⊎ GivesClosure p found
+ElseClosed = (p found : Pair) → PassesFour p found → (closing p found ≡ refusedClosing 5 found) ⊎ GivesClosure p found
 
 -- ---- 5. One conforming stream has, for every window d, the closure's ceiling of d in its first d ticks; another has the leasts.
 abbrev pub Follows : Pair → (ℕ → ℕ) → Type 0
 Follows p g = (s : Stream) × Conforms∞ p (s .counts) × ((d : ℕ) → d ≤ horizon p → sum (s .counts) 0 d ≡ g d)
 
-abbrev pub FollowsCeilings : Type 0
-FollowsCeilings = (p found : Pair) → GivesClosure p found → Follows p (ceiling (closureOf p found))
+abbrev pub FollowsUpper : Type 0
+FollowsUpper = (p found : Pair) → GivesClosure p found → Follows p (upperAt (closureOf p found))
 
-abbrev pub FollowsLeasts : Type 0
-FollowsLeasts = (p found : Pair) → GivesClosure p found → Follows p (least (closureOf p found))
+abbrev pub FollowsLower : Type 0
+FollowsLower = (p found : Pair) → GivesClosure p found → Follows p (lowerAt (closureOf p found))
 
 -- Demand 3, its third sentence, the first half.
 abbrev pub MetBySome : Pair → ℕ → ℕ → Type 0
@@ -66,13 +66,13 @@ MetBySome p d x = (s : Stream) × Conforms∞ p (s .counts) × MetIn (s .counts)
 abbrev pub FiguresMet : Type 0
 FiguresMet =
     (p found : Pair) → GivesClosure p found → (d : ℕ) → 1 ≤ d → d ≤ horizon p
-    → MetBySome p d (ceiling (closureOf p found) d) × MetBySome p d (least (closureOf p found) d)
+    → MetBySome p d (upperAt (closureOf p found) d) × MetBySome p d (lowerAt (closureOf p found) d)
 
 -- ---- 6. Demand 3, its third sentence, the second half: the conforming starts of the closure are those with a future.
-abbrev pub ConformsIffBegins : Type 0
-ConformsIffBegins =
+abbrev pub ConformsIffExtendable : Type 0
+ConformsIffExtendable =
     (p found : Pair) → GivesClosure p found → (xs : List ℕ)
-    → Conforms (closureOf p found) xs ↔ ((s : Stream) × Begins xs (s .counts) × Conforms∞ p (s .counts))
+    → Conforms (closureOf p found) xs ↔ Extendable p xs
 
 -- ---- 7. Demand 3, its first sentence: closures tell pairs apart exactly as their unbounded streams do.
 abbrev pub EqualIffSameStreams : Type 0
@@ -84,8 +84,8 @@ EqualIffSameStreams =
 abbrev pub GivenIsCausal : Type 0
 GivenIsCausal = (p found : Pair) → GivesClosure p found → Causal (closureOf p found)
 
-abbrev pub GivenPasses : Type 0
-GivenPasses = (p found : Pair) → GivesClosure p found → AllYes (pairQuestions (closureOf p found))
+abbrev pub ClosurePasses : Type 0
+ClosurePasses = (p found : Pair) → GivesClosure p found → AllYes (pairQuestions (closureOf p found))
 
 abbrev pub ClosedAgain : Type 0
 ClosedAgain =

@@ -1,11 +1,12 @@
 // Closing a pair of arrival curves: every bound that its figures imply, made explicit, or the answer that no stream conforms to it.
 
-use runs::Ending;
+mod round;
+mod run;
+
 ghost use mathlib.Core.Path.{_≡_};
 ghost use Rattle.curves.specs.Pairs.{pairOf};
 ghost use Rattle.closure.specs.Closing.{closing};
-ghost use Rattle.closure.specs.Answers.{answer};
-ghost use Rattle.closure.specs.Steps.{closingFor};
+ghost use Rattle.closure.specs.Answers.{closingAnswer};
 
 // The longest horizon.
 const MAX_HORIZON: usize = 256;
@@ -14,9 +15,9 @@ const MAX_HORIZON: usize = 256;
 pub enum Closing {
     // After so many rounds that changed a figure.
     Closed { rounds: u32 },
-    // 1: the ceiling list is not 1 to 256 long.
+    // 1: the upper list is not 1 to 256 long.
     UpperLength,
-    // 2: the least list has another length.
+    // 2: the lower list has another length.
     LowerLength,
     // 3: a result list is too short.
     ResultLength,
@@ -26,38 +27,36 @@ pub enum Closing {
     NoClosure,
 }
 
-// Closes the pair of `ceilings` and `leasts`, entry 0 for the window of one tick. The closure goes to the first entries of `upper` and
-// `lower`; the others, and on a refusal all, stay as they are.
-pub fn close(ceilings: &[u32], leasts: &[u32], upper: &mut [u32], lower: &mut [u32]) -> Closing
-    ensures { λ r. ⌜ answer r (pairOf (now (upper .exit)) (now (lower .exit)))
-        ≡ closing (pairOf (now (ceilings .entry)) (now (leasts .entry))) (pairOf (now (upper .entry)) (now (lower .entry))) ⌝ }
+// Closes the pair of `upper` (ceilings) and `lower` (leasts), entry 0 for the window of one tick. The closure goes to the first entries of
+// `closed_upper` and `closed_lower`; the others, and on a refusal all, stay as they are.
+pub fn close(
+    upper: &[u32],
+    lower: &[u32],
+    closed_upper: &mut [u32],
+    closed_lower: &mut [u32],
+) -> Closing
+    ensures { λ r. ⌜ closingAnswer r (pairOf (now («closed_upper» .exit)) (now («closed_lower» .exit)))
+        ≡ closing (pairOf (now (upper .entry)) (now (lower .entry)))
+        (pairOf (now («closed_upper» .entry)) (now («closed_lower» .entry))) ⌝ }
 {
-    let h = ceilings.len();
+    let h = upper.len();
     if h < 1 {
         return Closing::UpperLength;
     }
     if MAX_HORIZON < h {
         return Closing::UpperLength;
     }
-    if leasts.len() != h {
+    if lower.len() != h {
         return Closing::LowerLength;
     }
-    if upper.len() < h {
+    if closed_upper.len() < h {
         return Closing::ResultLength;
     }
-    if lower.len() < h {
+    if closed_lower.len() < h {
         return Closing::ResultLength;
     }
-    closing_for(runs::run(ceilings, leasts, &mut upper[..h], &mut lower[..h]))
-}
-
-// The answer to lists that pass questions 1 to 3.
-fn closing_for(ending: Ending) -> Closing
-    ensures { λ r. ⌜ r ≡ closingFor ending ⌝ }
-{
-    match ending {
-        Ending::Arrived { rounds } => Closing::Closed { rounds },
-        Ending::Crossed { rounds: _ } => Closing::NoClosure,
-        Ending::Unfit => Closing::FigureLimit,
+    if !bounds::within_limit(upper, lower) {
+        return Closing::FigureLimit;
     }
+    run::to_end(upper, lower, &mut closed_upper[..h], &mut closed_lower[..h])
 }

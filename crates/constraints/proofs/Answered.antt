@@ -9,10 +9,10 @@ use Rattle.csv.specs.Text.{Bytes, records}
 use Rattle.csv.proofs.Splitting.{records-first, record-short}
 use Rattle.csv.specs.Records.{constraintOf, messageLimit}
 use Rattle.constraints.specs.Constraints.{largestWindow}
-use Rattle.constraints.specs.Reading.{later, constraints, horizonOf, question6, question10, question11, recordQuestions, questions}
-use Rattle.constraints.specs.Reading.{refused, given, reading}
-use Rattle.constraints.specs.Answers.{answer}
-use Rattle.constraints.specs.Steps.{Holds, filledFrom, ScannedAs, Scanned, Delivered}
+use Rattle.constraints.specs.Reading.{later, constraints, horizonOf, question6, question10, question11, recordQuestions, readingQuestions}
+use Rattle.constraints.specs.Reading.{refusedReading, pairGiven, reading}
+use Rattle.constraints.specs.Answers.{readingAnswer}
+use Rattle.constraints.specs.Steps.{TableHolds, filledFrom, ScannedAs, Scanned, PairDelivered}
 use Rattle.constraints.specs.declared.Reading.{Reading}
 use Rattle.constraints.specs.declared.Reading.the-variants.{Read, HeaderLine, RecordForm, FigureRange, WindowAgain, NoRecord}
 use Rattle.constraints.specs.declared.Reading.the-variants.{ResultLength}
@@ -24,7 +24,7 @@ use Rattle.constraints.proofs.Named.{in-range, largest-some, largest-bo
 use Rattle.constraints.proofs.Said.{refused-is, given-is}
 
 -- The table of sound records is bounded.
-pub bounded : (rs : List Bytes) (b : Table) → AllYes (recordQuestions [] rs) × Holds b (map constraintOf rs)
+pub bounded : (rs : List Bytes) (b : Table) → AllYes (recordQuestions [] rs) × TableHolds b (map constraintOf rs)
     → (b .horizon ≤ maxHorizon) × (b .«smallest_most» ≤ messageLimit)
 bounded rs b sound = (
   omega (arith, largest-bound (map constraintOf rs) (in-range [] rs (sound .0))),
@@ -49,23 +49,23 @@ module _ (t : Bytes) (y₆ : question6 t .asked) where
 
 -- The refusals: 6; 7 to 9, of a record; 10 and 11, after all records.
 module _ (t : Bytes) (found : Pair) where
-  no-is : (n : ℕ) → FirstNo (questions t found) n → refused n found ≡ reading t found
+  no-is : (n : ℕ) → FirstNo (readingQuestions t found) n → refusedReading n found ≡ reading t found
   no-is n f = sym (refused-is t found n f)
 
-  pub no-6 : ¬ question6 t .asked → refused 6 found ≡ reading t found
+  pub no-6 : ¬ question6 t .asked → refusedReading 6 found ≡ reading t found
   no-6 n = no-is 6 (inl (refl, n))
 
   module _ (y₆ : question6 t .asked) where
-    pub no-record : (n : ℕ) → FirstNo (recordQuestions [] (later t)) n → refused n found ≡ reading t found
+    pub no-record : (n : ℕ) → FirstNo (recordQuestions [] (later t)) n → refusedReading n found ≡ reading t found
     no-record n f = no-is n (inr (y₆, no-before (recordQuestions [] (later t)) _ n f))
 
     -- All records are sound, and the table b holds their constraints.
-    module _ (b : Table) (sound : AllYes (recordQuestions [] (later t)) × Holds b (constraints t)) where
-      no-then : (n : ℕ) → FirstNo (question10 t ∷ question11 t found ∷ []) n → refused n found ≡ reading t found
+    module _ (b : Table) (sound : AllYes (recordQuestions [] (later t)) × TableHolds b (constraints t)) where
+      no-then : (n : ℕ) → FirstNo (question10 t ∷ question11 t found ∷ []) n → refusedReading n found ≡ reading t found
       no-then n f = no-is n (inr (y₆, no-after (recordQuestions [] (later t)) _ n (sound .0) f))
 
       -- What the table gives is the text's pair.
-      whole : (h : ℕ) → h ≡ horizonOf t → filledFrom b h found ≡ given t found .results
+      whole : (h : ℕ) → h ≡ horizonOf t → filledFrom b h found ≡ pairGiven t found .results
       whole h e =
           let l : horizonOf t ≤ maxHorizon = largest-bound (constraints t) (in-range [] (later t) (sound .0)) in
           rw (e, filled-upper b _ (sound .1) (horizonOf t) l, filled-lower b _ (sound .1) (horizonOf t) l)
@@ -73,20 +73,20 @@ module _ (t : Bytes) (found : Pair) where
       some-window : question10 t .asked → 1 ≤ horizonOf t
       some-window y = largest-some (constraints t) (in-range [] (later t) (sound .0)) (omega (arith, y, length-map (later t) constraintOf))
 
-      pub delivered-is : (r : Reading) (left : Pair) → Delivered b found left r → answer r left ≡ reading t found
+      pub delivered-is : (r : Reading) (left : Pair) → PairDelivered b found left r → readingAnswer r left ≡ reading t found
       delivered-is (Read h) left d =
           let e : h ≡ horizonOf t = d .1 ∙ sound .1 .horizon in
           let y₁₀ : question10 t .asked = some-records (later t) (omega arith) in
           let y₁₁ : question11 t found .asked = (omega arith, omega arith) in
-          let ys : AllYes (questions t found) = (y₆, yes-append (recordQuestions [] (later t)) _ (sound .0) (y₁₀, (y₁₁, tt))) in
+          let ys : AllYes (readingQuestions t found) = (y₆, yes-append (recordQuestions [] (later t)) _ (sound .0) (y₁₀, (y₁₁, tt))) in
           (λ i. record { number = 0; horizon = e i; results = (d .4 ∙ whole h e) i })
           ∙ sym (given-is t found ys)
       delivered-is NoRecord left d =
-          ap (refused 10) (d .1)
+          ap (refusedReading 10) (d .1)
           ∙ no-then 10 (inl (refl, λ y. omega (arith, some-window y)))
       delivered-is ResultLength left d =
           let y₁₀ : question10 t .asked = some-records (later t) (omega arith) in
-          ap (refused 11) (d .2)
+          ap (refusedReading 11) (d .2)
           ∙ no-then 11 (inr (y₁₀, inl (refl, λ y. d .1 (omega arith, omega arith))))
       delivered-is HeaderLine left d = absurd d
       delivered-is RecordForm left d = absurd d

@@ -14,19 +14,19 @@ use Rattle.records.specs.Recording.{spelt, recording, question7, question8}
 use Rattle.records.proofs.Said.{refused-iff, given-from}
 use Rattle.constraints.specs.Constraints.{New}
 use Rattle.constraints.specs.Reading.{question9, recordQuestions}
-use Rattle.constraints.specs.Steps.{Holds, with}
+use Rattle.constraints.specs.Steps.{TableHolds, with}
 use Rattle.constraints.specs.declared.table.Table.{Table}
 use Rattle.constraints.proofs.Tables.{holds-more, names-told}
 
 -- Of the records rs₀ all are taken into the table t but the last, rs: what is asked of these settles what is asked of all.
 pub record Reached (rs₀ : List Bytes) (t : Table) (rs : List Bytes) : Type 0 where
   pub taken : List Constraint
-  pub holds : Holds t taken
+  pub holds : TableHolds t taken
   pub all : taken ++ map constraintOf rs ≡ map constraintOf rs₀
   pub yeses : AllYes (recordQuestions taken rs) → AllYes (recordQuestions [] rs₀)
   pub noes : (n : ℕ) → FirstNo (recordQuestions taken rs) n → FirstNo (recordQuestions [] rs₀) n
 
-pub reached-none : (rs : List Bytes) (t : Table) → Holds t [] → Reached rs t rs
+pub reached-none : (rs : List Bytes) (t : Table) → TableHolds t [] → Reached rs t rs
 reached-none rs t h = record { taken = []; holds = h; all = refl; yeses = λ ys. ys; noes = λ n f. f }
 
 -- The record that a text s has at k: it ends within the text, and the other records begin after its CR LF.
@@ -100,7 +100,7 @@ module _ (s : Bytes) (rs₀ : List Bytes) (t : Table) (k : ℕ) (l : k < length 
 
 -- No record is left.
 pub reached-end : (s : Bytes) (rs₀ : List Bytes) (t : Table) (k : ℕ) → length s ≤ k → Reached rs₀ t (records (drop k s))
-    → AllYes (recordQuestions [] rs₀) × Holds t (map constraintOf rs₀)
+    → AllYes (recordQuestions [] rs₀) × TableHolds t (map constraintOf rs₀)
 unfolding records
 reached-end s rs₀ t k l a =
     let done : Reached rs₀ t [] = subst (λ x. Reached rs₀ t (records x)) (drop-of-length-le s l) a in

@@ -9,7 +9,7 @@ use Rattle.csv.specs.Text.{Bytes, comma, crlf, header, records, fields}
 use Rattle.csv.specs.Numbers.{valueAfter}
 use Rattle.csv.specs.Records.{triple}
 use Rattle.csv.proofs.Decisions.{digit?, numeral?, wellFormed?, inRange?}
-use Rattle.constraints.specs.Reading.{refused, reading}
+use Rattle.constraints.specs.Reading.{refusedReading, reading}
 use Rattle.constraints.specs.Constraints.{named, filled}
 
 -- The published triples up to their horizon: windows 1, 2 and 4 are filled by the smallest most, 3.
@@ -29,7 +29,7 @@ faults = header ++ crlf ++ row ++ crlf ++ row ++ crlf ++ (120 ∷ [])
     row : Bytes
     row = 51 ∷ comma ∷ 48 ∷ comma ∷ 51 ∷ []
 
-first-decides : (found : Pair) → reading faults found ≡ refused 9 found
+first-decides : (found : Pair) → reading faults found ≡ refusedReading 9 found
 unfolding reading faults ask ⊎-map records fields valueAfter each? digit? numeral? wellFormed? inRange? decLe ℕ-discrete Dec·and Dec·not
     equal-lists?
 first-decides found = refl

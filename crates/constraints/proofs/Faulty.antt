@@ -6,9 +6,9 @@ use Rattle.curves.proofs.Asked.{no-parts, no-before, no-after}
 use Rattle.csv.specs.Text.{Bytes}
 use Rattle.csv.specs.Records.{Constraint, constraintOf}
 use Rattle.records.specs.Recording.{question7, question8}
-use Rattle.constraints.specs.Reading.{later, question6, question9, recordQuestions, question10, question11, refused, reading}
+use Rattle.constraints.specs.Reading.{later, question6, question9, recordQuestions, question10, question11, refusedReading, reading}
 use Rattle.constraints.specs.Theorems.{FirstFaulty, RefusedIffFirstFaulty}
-use Rattle.constraints.proofs.Said.{refused-iff-first-no}
+use Rattle.constraints.proofs.Said.{reading-refused}
 
 -- The questions of record i of rs, where those of `earlier` come before all.
 abbrev asks : List Constraint → List Bytes → ℕ → List Question
@@ -50,7 +50,7 @@ refused-iff-first-faulty t found n p q = (there, back)
     after : List Question
     after = question10 t ∷ question11 t found ∷ []
 
-    there : reading t found ≡ refused n found → (question6 t .asked) × FirstFaulty (later t) n
+    there : reading t found ≡ refusedReading n found → (question6 t .asked) × FirstFaulty (later t) n
     there e =
         ⊎-elim
         (λ h. absurd (omega (arith, h .0)))
@@ -58,9 +58,9 @@ refused-iff-first-faulty t found n p q = (there, back)
         (λ g. let f = no-faulty [] (later t) n g in (h .0, record { at = f .0; within = f .1; sound = f .2; fault = f .3 }))
         (λ g. absurd (⊎-elim (λ k. omega (arith, k .0)) (λ k. ⊎-elim (λ j. omega (arith, j .0)) (λ j. j .1) (k .1)) (g .1)))
         (no-parts (recordQuestions [] (later t)) after n (h .1)))
-        (refused-iff-first-no t found n .0 (omega arith, e))
+        (reading-refused t found n .0 (omega arith, e))
 
-    back : (question6 t .asked) × FirstFaulty (later t) n → reading t found ≡ refused n found
+    back : (question6 t .asked) × FirstFaulty (later t) n → reading t found ≡ refusedReading n found
     back (y, f) =
         let no-one = no-before (recordQuestions [] (later t)) after n (faulty-no [] (later t) n (f .at, f .within, f .sound, f .fault)) in
-        refused-iff-first-no t found n .1 (inr (y, no-one)) .1
+        reading-refused t found n .1 (inr (y, no-one)) .1

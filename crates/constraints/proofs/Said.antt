@@ -8,17 +8,17 @@ use Rattle.curves.specs.Questions.{Question, AllYes, FirstNo}
 use Rattle.curves.proofs.Asked.{said-no, said-yes, yes-parts, Positive, no-iff, yes-iff}
 use Rattle.csv.specs.Text.{Bytes}
 use Rattle.csv.specs.Records.{Constraint, constraintOf}
-use Rattle.constraints.specs.Reading.{later, horizonOf, recordQuestions, question10, question11, questions, refused, given, reading}
-use Rattle.constraints.specs.Theorems.{RefusedIffFirstNo, PairIffAllYes, GivesPair, GivenIsTextPair}
+use Rattle.constraints.specs.Reading.{later, horizonOf, recordQuestions, question10, question11, readingQuestions, refusedReading, pairGiven, reading}
+use Rattle.constraints.specs.Theorems.{ReadingRefused, PairIffAllYes, GivesPair, GivenIsTextPair}
 
 module _ (t : Bytes) (found : Pair) where
-  pub refused-is : (n : ℕ) → FirstNo (questions t found) n → reading t found ≡ refused n found
+  pub refused-is : (n : ℕ) → FirstNo (readingQuestions t found) n → reading t found ≡ refusedReading n found
   unfolding reading
-  refused-is n f = said-no (questions t found) _ (λ k. refused k found) n f
+  refused-is n f = said-no (readingQuestions t found) _ (λ k. refusedReading k found) n f
 
-  pub given-is : AllYes (questions t found) → reading t found ≡ given t found
+  pub given-is : AllYes (readingQuestions t found) → reading t found ≡ pairGiven t found
   unfolding reading
-  given-is ys = said-yes (questions t found) _ _ (given t found) ys (λ _. refl)
+  given-is ys = said-yes (readingQuestions t found) _ _ (pairGiven t found) ys (λ _. refl)
 
 positive-records : (earlier : List Constraint) (rs : List Bytes) (qs : List Question) → Positive qs
     → Positive (recordQuestions earlier rs ++ qs)
@@ -26,20 +26,20 @@ positive-records earlier [] qs h = h
 positive-records earlier (r ∷ rs) qs h =
     (omega arith, (omega arith, (omega arith, positive-records (earlier ++ (constraintOf r ∷ [])) rs qs h)))
 
-positive-numbers : (t : Bytes) (found : Pair) → Positive (questions t found)
+positive-numbers : (t : Bytes) (found : Pair) → Positive (readingQuestions t found)
 positive-numbers t found =
     (omega arith, positive-records [] (later t) (question10 t ∷ question11 t found ∷ []) (omega arith, (omega arith, tt)))
 
 -- ---- the statements
-pub refused-iff-first-no : RefusedIffFirstNo
+pub reading-refused : ReadingRefused
 unfolding reading
-refused-iff-first-no t found =
-    no-iff (questions t found) _ (λ k. refused k found) (λ x. x .number) (λ k. refl) (λ ys. refl) (positive-numbers t found)
+reading-refused t found =
+    no-iff (readingQuestions t found) _ (λ k. refusedReading k found) (λ x. x .number) (λ k. refl) (λ ys. refl) (positive-numbers t found)
 
 pub pair-iff-all-yes : PairIffAllYes
 unfolding reading
 pair-iff-all-yes t found =
-    yes-iff (questions t found) _ (λ k. refused k found) (λ x. x .number) (λ k. refl) (λ ys. refl) (positive-numbers t found)
+    yes-iff (readingQuestions t found) _ (λ k. refusedReading k found) (λ x. x .number) (λ k. refl) (λ ys. refl) (positive-numbers t found)
 
 -- Where a pair is given, the records were asked, there is one, and the lists are long enough.
 pub gives-asked : (t : Bytes) (found : Pair) → GivesPair t found

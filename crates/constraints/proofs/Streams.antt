@@ -7,13 +7,13 @@ use Rattle.laws.specs.Tests.{Each}
 use Rattle.laws.proofs.Table.{length-table, getD-table}
 use Rattle.laws.proofs.Tests.{each-map, each-both}
 use Rattle.curves.specs.Streams.{sum}
-use Rattle.curves.specs.Pairs.{Pair, figure, horizon, least}
+use Rattle.curves.specs.Pairs.{Pair, figure, horizon}
 use Rattle.curves.specs.Conformance.{Conforms∞}
 use Rattle.curves.specs.Questions.{AllYes}
 use Rattle.bounds.specs.Bounds.{figureLimit, Bounded, pairQuestions}
 use Rattle.csv.specs.Text.{Bytes}
 use Rattle.constraints.specs.Reading.{later, constraints, recordQuestions}
-use Rattle.constraints.specs.Theorems.{GivesPair, GivenPasses, SatisfiesIffConforms}
+use Rattle.constraints.specs.Theorems.{GivesPair, TextPairPasses, SatisfiesIffConforms}
 use Rattle.constraints.proofs.Said.{gives-asked, given-is-text-pair}
 use Rattle.csv.specs.Records.{Constraint, messageLimit, InRange}
 use Rattle.constraints.specs.Constraints.{named, largestWindow, smallestMost, filled, Satisfies}
@@ -130,7 +130,7 @@ satisfies-iff-conforms t found g s =
       conforms-keeps (constraints t) ok some (s .counts) (λ what other. named-own what other [] (later t) (sound t found g)),
     )
 
-pub given-passes : GivenPasses
-given-passes t found g =
+pub text-pair-passes : TextPairPasses
+text-pair-passes t found g =
     subst (λ (p : Pair). AllYes (pairQuestions p)) (sym (given-is-text-pair t found g .1))
     (filled-passes (constraints t) (in-range [] (later t) (sound t found g)) (some-constraint t found g))

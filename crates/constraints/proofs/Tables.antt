@@ -9,7 +9,7 @@ use Rattle.laws.proofs.Table.{getD-table, table-ext, table-set, table-same-entr
 use Rattle.bounds.specs.Bounds.{maxHorizon}
 use Rattle.csv.specs.Records.{Constraint, InRange, messageLimit}
 use Rattle.constraints.specs.Constraints.{New, named, largestWindow, smallestMost}
-use Rattle.constraints.specs.Steps.{Holds, with, ceilingIn, leastIn}
+use Rattle.constraints.specs.Steps.{TableHolds, with, upperIn, lowerIn}
 use Rattle.constraints.specs.declared.table.Table.{Table}
 use Rattle.constraints.proofs.Named.{named-first, named-next, named-new, named-other}
 
@@ -19,7 +19,7 @@ product-bound d m h l = mul-le-mul h l
 
 -- ---- no constraint
 pub holds-none
-    : Holds
+    : TableHolds
     (record {
       horizon = 0;
       «smallest_most» = messageLimit;
@@ -48,7 +48,7 @@ smallest-more : (cs : List Constraint) (c : Constraint) → min (smallestMost cs
 smallest-more [] c = omega arith
 smallest-more (e ∷ cs) c = omega (arith, smallest-more cs c)
 
-module _ (t : Table) (cs : List Constraint) (c : Constraint) (h : Holds t cs) (r : InRange c) where
+module _ (t : Table) (cs : List Constraint) (c : Constraint) (h : TableHolds t cs) (r : InRange c) where
   -- So the table's arrays change at that window alone.
   set-more : {A : Type 0} (what : Constraint → A) (other : A) → New cs c
       → set (table (named what other cs) maxHorizon) (c .window - 1) (what c) ≡ table (named what other (cs ++ (c ∷ []))) maxHorizon
@@ -57,7 +57,7 @@ module _ (t : Table) (cs : List Constraint) (c : Constraint) (h : Holds t cs) (r
       (sym (named-new what other cs c (c ∷ []) new ∙ named-first what other c [] (c .window) refl))
       (λ k n. sym (named-other what other cs c k (λ e. n (sym e))))
 
-  pub holds-more : New cs c → Holds (with t (c .window) (c .least) (c .most)) (cs ++ (c ∷ []))
+  pub holds-more : New cs c → TableHolds (with t (c .window) (c .least) (c .most)) (cs ++ (c ∷ []))
   holds-more new =
       record {
         horizon = ap (λ n. max n (c .window)) (h .horizon) ∙ largest-more cs c;
@@ -88,7 +88,7 @@ entry cs what z xs e d p q =
     ap (λ x. getD x (d - 1) z) e ∙ getD-table (named what z cs) maxHorizon (d - 1) z (omega arith) ∙ ap (named what z cs) s
 
 -- What the table tells of a window in range.
-pub names-told : (t : Table) (cs : List Constraint) (c : Constraint) → Holds t cs → InRange c
+pub names-told : (t : Table) (cs : List Constraint) (c : Constraint) → TableHolds t cs → InRange c
     → Either (getD (t .named) (c .window - 1) false) (¬ New cs c) (New cs c)
 names-told t cs c h i = rw (entry cs (λ x. true) false (t .named) (h .names) (c .window) (i .some) (i .window)) (new-told cs c)
 
@@ -101,8 +101,8 @@ named-else what z other (c ∷ cs) d =
     elim (ℕ-discrete (c .window) d) [ yes e ↦ simp named-first | no e ↦ simp named-next (named-else what z other cs d) ]
 
 -- What is filled from a table is what filling is to give.
-module _ (t : Table) (cs : List Constraint) (h : Holds t cs) (n : ℕ) (l : n ≤ maxHorizon) where
-  pub filled-upper : table (ceilingIn t) n ≡ table (λ d. named (λ c. c .most) (d * smallestMost cs) cs d) n
+module _ (t : Table) (cs : List Constraint) (h : TableHolds t cs) (n : ℕ) (l : n ≤ maxHorizon) where
+  pub filled-upper : table (upperIn t) n ≡ table (λ d. named (λ c. c .most) (d * smallestMost cs) cs d) n
   filled-upper =
       table-ext _ _ n
       (λ d p q.
@@ -110,5 +110,5 @@ module _ (t : Table) (cs : List Constraint) (h : Holds t cs) (n : ℕ) (l : n �
       rw (entry cs (λ c. true) false (t .named) (h .names) d p q′, entry cs (λ c. c .most) 0 (t .mosts) (h .mosts) d p q′, h .smallest)
       (named-else (λ c. c .most) 0 (d * smallestMost cs) cs d))
 
-  pub filled-lower : table (leastIn t) n ≡ table (λ d. named (λ c. c .least) 0 cs d) n
+  pub filled-lower : table (lowerIn t) n ≡ table (λ d. named (λ c. c .least) 0 cs d) n
   filled-lower = table-ext _ _ n (λ d p q. entry cs (λ c. c .least) 0 (t .leasts) (h .leasts) d p (omega arith))

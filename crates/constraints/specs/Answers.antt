@@ -4,27 +4,27 @@ use Rattle.curves.specs.Pairs.{Pair}
 use Rattle.constraints.specs.declared.Reading.{Reading}
 use Rattle.constraints.specs.declared.Reading.the-variants.{Read, HeaderLine, RecordForm, FigureRange, WindowAgain}
 use Rattle.constraints.specs.declared.Reading.the-variants.{NoRecord, ResultLength}
-use Rattle.constraints.specs.Reading.{Answer}
+use Rattle.constraints.specs.Reading.{ReadingAnswer}
 
-abbrev pub numberOf : Reading → ℕ
-numberOf (Read h) = 0
-numberOf HeaderLine = 6
-numberOf RecordForm = 7
-numberOf FigureRange = 8
-numberOf WindowAgain = 9
-numberOf NoRecord = 10
-numberOf ResultLength = 11
+abbrev pub readingNumber : Reading → ℕ
+readingNumber (Read h) = 0
+readingNumber HeaderLine = 6
+readingNumber RecordForm = 7
+readingNumber FigureRange = 8
+readingNumber WindowAgain = 9
+readingNumber NoRecord = 10
+readingNumber ResultLength = 11
 
 -- The horizon that is answered; 0 on a refusal.
-abbrev pub horizonIn : Reading → ℕ
-horizonIn (Read h) = h
-horizonIn HeaderLine = 0
-horizonIn RecordForm = 0
-horizonIn FigureRange = 0
-horizonIn WindowAgain = 0
-horizonIn NoRecord = 0
-horizonIn ResultLength = 0
+abbrev pub readingHorizon : Reading → ℕ
+readingHorizon (Read h) = h
+readingHorizon HeaderLine = 0
+readingHorizon RecordForm = 0
+readingHorizon FigureRange = 0
+readingHorizon WindowAgain = 0
+readingHorizon NoRecord = 0
+readingHorizon ResultLength = 0
 
 -- What a call that returns this case, and leaves the result lists so, has answered.
-abbrev pub answer : Reading → Pair → Answer
-answer r left = record { number = numberOf r; horizon = horizonIn r; results = left }
+abbrev pub readingAnswer : Reading → Pair → ReadingAnswer
+readingAnswer r left = record { number = readingNumber r; horizon = readingHorizon r; results = left }

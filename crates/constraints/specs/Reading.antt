@@ -65,11 +65,11 @@ question10 t = record { number = 10; asked = 1 ≤ length (later t); answered = 
 abbrev pub question11 : Bytes → Pair → Question
 question11 t found = record { number = 11; asked = RoomFor (horizonOf t) found; answered = roomFor? (horizonOf t) found }
 
-abbrev pub questions : Bytes → Pair → List Question
-questions t found = (question6 t ∷ recordQuestions [] (later t)) ++ (question10 t ∷ question11 t found ∷ [])
+abbrev pub readingQuestions : Bytes → Pair → List Question
+readingQuestions t found = (question6 t ∷ recordQuestions [] (later t)) ++ (question10 t ∷ question11 t found ∷ [])
 
 -- What reading answers, with the two result lists as it leaves them.
-pub record Answer : Type 0 where
+pub record ReadingAnswer : Type 0 where
   -- The number of the refusal; 0 where there is none.
   pub number : ℕ
   -- The pair's horizon.
@@ -77,12 +77,12 @@ pub record Answer : Type 0 where
   pub results : Pair
 
 -- A refusal: its number, nothing else, and the result lists as found.
-abbrev pub refused : ℕ → Pair → Answer
-refused n found = record { number = n; horizon = 0; results = found }
+abbrev pub refusedReading : ℕ → Pair → ReadingAnswer
+refusedReading n found = record { number = n; horizon = 0; results = found }
 
 -- The text's pair in the first H entries of the result lists; the others as found.
-abbrev pub given : Bytes → Pair → Answer
-given t found =
+abbrev pub pairGiven : Bytes → Pair → ReadingAnswer
+pairGiven t found =
     record {
       number = 0;
       horizon = horizonOf t;
@@ -94,5 +94,5 @@ given t found =
     }
 
 -- Reading the text t: the first question that is answered no gives its number, else the text's pair is given.
-unfoldable pub reading : Bytes → Pair → Answer
-reading t found = answerTo (questions t found) (λ _. given t found) (λ n. refused n found)
+unfoldable pub reading : Bytes → Pair → ReadingAnswer
+reading t found = answerTo (readingQuestions t found) (λ _. pairGiven t found) (λ n. refusedReading n found)

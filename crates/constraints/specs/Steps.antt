@@ -22,7 +22,7 @@ use Rattle.constraints.specs.declared.table.Table.{Table}
 
 -- ---- the table
 -- A table holds the constraints cs.
-pub record Holds (t : Table) (cs : List Constraint) : Type 0 where
+pub record TableHolds (t : Table) (cs : List Constraint) : Type 0 where
   pub horizon : t .horizon ≡ largestWindow cs
   pub smallest : t .«smallest_most» ≡ smallestMost cs
   pub names : t .named ≡ table (named (λ c. true) false cs) maxHorizon
@@ -41,20 +41,20 @@ with t w l m =
     }
 
 -- A window's ceiling and least by the table.
-abbrev pub ceilingIn : Table → ℕ → ℕ
-ceilingIn t d = cond (getD (t .named) (d - 1) false) (getD (t .mosts) (d - 1) 0) (d * t .«smallest_most»)
+abbrev pub upperIn : Table → ℕ → ℕ
+upperIn t d = cond (getD (t .named) (d - 1) false) (getD (t .mosts) (d - 1) 0) (d * t .«smallest_most»)
 
-abbrev pub leastIn : Table → ℕ → ℕ
-leastIn t d = getD (t .leasts) (d - 1) 0
+abbrev pub lowerIn : Table → ℕ → ℕ
+lowerIn t d = getD (t .leasts) (d - 1) 0
 
 -- The lists left after filling those found up to h.
 abbrev pub filledFrom : Table → ℕ → Pair → Pair
-filledFrom t h found = pairOf (table (ceilingIn t) h ++ drop h (found .upper)) (table (leastIn t) h ++ drop h (found .lower))
+filledFrom t h found = pairOf (table (upperIn t) h ++ drop h (found .upper)) (table (lowerIn t) h ++ drop h (found .lower))
 
 -- ---- the text
 -- What the records rs were found to be.
 abbrev pub ScannedAs : List Bytes → Table → Fault → Type 0
-ScannedAs rs t Sound = AllYes (recordQuestions [] rs) × Holds t (map constraintOf rs)
+ScannedAs rs t Sound = AllYes (recordQuestions [] rs) × TableHolds t (map constraintOf rs)
 ScannedAs rs t Form = FirstNo (recordQuestions [] rs) 7
 ScannedAs rs t Range = FirstNo (recordQuestions [] rs) 8
 ScannedAs rs t Again = FirstNo (recordQuestions [] rs) 9
@@ -63,13 +63,13 @@ abbrev pub Scanned : List Bytes → Scan → Type 0
 Scanned rs s = ScannedAs rs (s .table) (s .fault)
 
 -- What became of the table of all constraints.
-abbrev pub Delivered : Table → Pair → Pair → Reading → Type 0
-Delivered t found left (Read h) =
+abbrev pub PairDelivered : Table → Pair → Pair → Reading → Type 0
+PairDelivered t found left (Read h) =
     (1 ≤ h) × (h ≡ t .horizon) × (h ≤ length (found .upper)) × (h ≤ length (found .lower)) × (left ≡ filledFrom t h found)
-Delivered t found left NoRecord = (t .horizon < 1) × (left ≡ found)
-Delivered t found left ResultLength =
+PairDelivered t found left NoRecord = (t .horizon < 1) × (left ≡ found)
+PairDelivered t found left ResultLength =
     (1 ≤ t .horizon) × (¬ ((t .horizon ≤ length (found .upper)) × (t .horizon ≤ length (found .lower)))) × (left ≡ found)
-Delivered t found left HeaderLine = ⊥
-Delivered t found left RecordForm = ⊥
-Delivered t found left FigureRange = ⊥
-Delivered t found left WindowAgain = ⊥
+PairDelivered t found left HeaderLine = ⊥
+PairDelivered t found left RecordForm = ⊥
+PairDelivered t found left FigureRange = ⊥
+PairDelivered t found left WindowAgain = ⊥

@@ -15,17 +15,17 @@ use Rattle.csv.specs.Records.{constraintOf}
 use Rattle.records.specs.Recording.{question7, question8}
 use Rattle.constraints.specs.Constraints.{Satisfies}
 use Rattle.constraints.specs.Reading.{later, constraints, horizonOf, textPair, question6, question9}
-use Rattle.constraints.specs.Reading.{questions, refused, reading}
+use Rattle.constraints.specs.Reading.{readingQuestions, refusedReading, reading}
 
 -- ---- Demand 1: refused with n exactly when question n is the first that is answered no; else a pair is given.
 abbrev pub GivesPair : Bytes → Pair → Type 0
 GivesPair t found = reading t found .number ≡ 0
 
-abbrev pub RefusedIffFirstNo : Type 0
-RefusedIffFirstNo = (t : Bytes) (found : Pair) (n : ℕ) → ((1 ≤ n) × (reading t found ≡ refused n found)) ↔ FirstNo (questions t found) n
+abbrev pub ReadingRefused : Type 0
+ReadingRefused = (t : Bytes) (found : Pair) (n : ℕ) → ((1 ≤ n) × (reading t found ≡ refusedReading n found)) ↔ FirstNo (readingQuestions t found) n
 
 abbrev pub PairIffAllYes : Type 0
-PairIffAllYes = (t : Bytes) (found : Pair) → GivesPair t found ↔ AllYes (questions t found)
+PairIffAllYes = (t : Bytes) (found : Pair) → GivesPair t found ↔ AllYes (readingQuestions t found)
 
 -- The three questions of record i of rs, after the records before it.
 abbrev pub questionsAt : List Bytes → ℕ → List Question
@@ -42,7 +42,7 @@ pub record FirstFaulty (rs : List Bytes) (n : ℕ) : Type 0 where
 abbrev pub RefusedIffFirstFaulty : Type 0
 RefusedIffFirstFaulty =
     (t : Bytes) (found : Pair) (n : ℕ) → 7 ≤ n → n ≤ 9
-    → (reading t found ≡ refused n found) ↔ ((question6 t .asked) × FirstFaulty (later t) n)
+    → (reading t found ≡ refusedReading n found) ↔ ((question6 t .asked) × FirstFaulty (later t) n)
 
 -- ---- the pair that is given: the first H entries of the result lists
 abbrev pub givenPair : Bytes → Pair → Pair
@@ -53,8 +53,8 @@ GivenIsTextPair =
     (t : Bytes) (found : Pair) → GivesPair t found → (reading t found .horizon ≡ horizonOf t) × (givenPair t found ≡ textPair t)
 
 -- It passes closing's questions 1, 2 and 4.
-abbrev pub GivenPasses : Type 0
-GivenPasses = (t : Bytes) (found : Pair) → GivesPair t found → AllYes (pairQuestions (givenPair t found))
+abbrev pub TextPairPasses : Type 0
+TextPairPasses = (t : Bytes) (found : Pair) → GivesPair t found → AllYes (pairQuestions (givenPair t found))
 
 -- ---- The unbounded streams that conform to it are those that satisfy every constraint of the text: filling adds nothing.
 abbrev pub SatisfiesIffConforms : Type 0

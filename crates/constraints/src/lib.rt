@@ -13,8 +13,8 @@ ghost use Rattle.bounds.specs.Bounds.{maxHorizon};
 ghost use Rattle.csv.specs.Records.{messageLimit};
 ghost use Rattle.csv.specs.Text.{header, records};
 ghost use Rattle.constraints.specs.Reading.{textLimit, reading};
-ghost use Rattle.constraints.specs.Answers.{answer};
-ghost use Rattle.constraints.specs.Steps.{Scanned, Delivered};
+ghost use Rattle.constraints.specs.Answers.{readingAnswer};
+ghost use Rattle.constraints.specs.Steps.{Scanned, PairDelivered};
 
 // The longest text, in bytes, and where the records begin: after the header and its CR LF.
 const MAX_TEXT: usize = 16_384;
@@ -57,7 +57,7 @@ struct Scan {
 // Reads the constraints of `text`. Their pair goes to the first entries of `upper` and `lower`, entry 0 for the window of one tick; the
 // others, and on a refusal all, stay as they are.
 pub fn read(text: &[u8], upper: &mut [u32], lower: &mut [u32]) -> Reading
-    ensures { λ r. ⌜ answer r (pairOf (now (upper .exit)) (now (lower .exit)))
+    ensures { λ r. ⌜ readingAnswer r (pairOf (now (upper .exit)) (now (lower .exit)))
         ≡ reading (now (text .entry)) (pairOf (now (upper .entry)) (now (lower .entry))) ⌝ }
 {
     if MAX_TEXT < text.len() {
@@ -142,7 +142,7 @@ fn read_records(text: &[u8]) -> Scan
 // The pair of the constraints in the table goes to the result lists, if there is a constraint and the lists are long enough.
 fn deliver(table: Table, upper: &mut [u32], lower: &mut [u32]) -> Reading
     requires { ⌜ (table .horizon ≤ maxHorizon) × (table .«smallest_most» ≤ messageLimit) ⌝ }
-    ensures { λ r. ⌜ Delivered table (pairOf (now (upper .entry)) (now (lower .entry)))
+    ensures { λ r. ⌜ PairDelivered table (pairOf (now (upper .entry)) (now (lower .entry)))
         (pairOf (now (upper .exit)) (now (lower .exit))) r ⌝ }
 {
     let h = table.horizon;

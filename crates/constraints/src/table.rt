@@ -7,7 +7,7 @@ ghost use lib.ListN.{length};
 ghost use Rattle.curves.specs.Pairs.{pairOf};
 ghost use Rattle.bounds.specs.Bounds.{maxHorizon};
 ghost use Rattle.csv.specs.Records.{messageLimit};
-ghost use Rattle.constraints.specs.Steps.{Holds, with, ceilingIn, filledFrom};
+ghost use Rattle.constraints.specs.Steps.{TableHolds, with, upperIn, filledFrom};
 
 // The longest window.
 const MAX_WINDOW: usize = 256;
@@ -29,7 +29,7 @@ pub(crate) struct Table {
 impl Table {
     // No constraint.
     pub(crate) fn empty() -> Table
-        ensures { λ r. ⌜ Holds r [] ⌝ }
+        ensures { λ r. ⌜ TableHolds r [] ⌝ }
     {
         Table {
             horizon: 0,
@@ -57,7 +57,7 @@ impl Table {
     fn ceiling(self, window: usize) -> u32
         requires { ⌜ (1 ≤ window) × (window ≤ maxHorizon) ⌝ }
         requires { ⌜ self .«smallest_most» ≤ messageLimit ⌝ }
-        ensures { λ r. ⌜ r ≡ ceilingIn self window ⌝ }
+        ensures { λ r. ⌜ r ≡ upperIn self window ⌝ }
     {
         if self.named[window - 1] {
             return self.mosts[window - 1];

@@ -5,8 +5,8 @@ use lib.IntN.{pos}
 use lib.Signed.{_<ℤ_}
 use Rattle.laws.proofs.Best.{min-best, max-best}
 use Rattle.laws.proofs.Whole.{AtMost, lt-parts, parts-lt, smaller-best, larger-best}
-use Rattle.curves.specs.Pairs.{horizon, Same, Pair, ceiling, least, Equal}
-use Rattle.curves.specs.Rounds.{Arithmetic, whole, cutOff, given, round, after, upperAt, lowerAt, Crossed, Settled}
+use Rattle.curves.specs.Pairs.{horizon, Same, Pair, upperAt, lowerAt, Equal, figure}
+use Rattle.curves.specs.Rounds.{Arithmetic, whole, cutOff, figuresOf, round, after, Crossed, Settled}
 use Rattle.curves.specs.Rounds.{HasAfter, Runs, Arrives, Crosses}
 use Rattle.curves.specs.Theorems.{CutOffArrives, CutOffCrosses}
 use Rattle.curves.proofs.Figures.{given-horizon, given-upper, given-lower, given-same}
@@ -14,41 +14,41 @@ use Rattle.curves.proofs.Figures.{same-refl, same-by, crossed-moved, sa
 use Rattle.curves.proofs.CutOff.{round-agrees}
 
 -- A pair's own figures, cut off at 0, are the pair's.
-pub given-equal : (p : Pair) → Equal (given cutOff p) p
+pub given-equal : (p : Pair) → Equal (figuresOf cutOff p) p
 given-equal p =
     same-by 0 (given-horizon cutOff p)
     (λ d u v. let w = rw (given-horizon cutOff p) at v in (given-upper cutOff p d u w, given-lower cutOff p d u w))
 
-given-cut : (p : Pair) → given whole (given cutOff p) ≡ given whole p
-given-cut p = given-same whole (given cutOff p) p (given-equal p)
+given-cut : (p : Pair) → figuresOf whole (figuresOf cutOff p) ≡ figuresOf whole p
+given-cut p = given-same whole (figuresOf cutOff p) p (given-equal p)
 
 -- The whole numbers of a pair cross, are equal and settle as its natural numbers do.
-pub crossed-given : (c : Pair) → Crossed whole (given whole c) ↔ Crossed cutOff c
+pub crossed-given : (c : Pair) → Crossed whole (figuresOf whole c) ↔ Crossed cutOff c
 crossed-given c = (
-  crossed-moved (given whole c) c (given-horizon whole c) (λ d u v. above d u (rw (given-horizon whole c) at v) .0),
-  crossed-moved c (given whole c) (sym (given-horizon whole c)) (λ d u v. above d u v .1),
+  crossed-moved (figuresOf whole c) c (given-horizon whole c) (λ d u v. above d u (rw (given-horizon whole c) at v) .0),
+  crossed-moved c (figuresOf whole c) (sym (given-horizon whole c)) (λ d u v. above d u v .1),
 )
   where
     above : (d : ℕ) → 1 ≤ d → d ≤ horizon c
-        → (upperAt whole (given whole c) d <ℤ lowerAt whole (given whole c) d) ↔ (ceiling c d < least c d)
+        → (figure (whole .of 0) (figuresOf whole c .upper) d <ℤ figure (whole .of 0) (figuresOf whole c .lower) d) ↔ (upperAt c d < lowerAt c d)
     above d u v =
         rw (given-upper whole c d u v, given-lower whole c d u v)
-        ((λ l. omega (arith, lt-parts _ _ l)), (λ l. parts-lt (pos (ceiling c d)) (pos (least c d)) (omega arith)))
+        ((λ l. omega (arith, lt-parts _ _ l)), (λ l. parts-lt (pos (upperAt c d)) (pos (lowerAt c d)) (omega arith)))
 
-pub equal-given : (c e : Pair) → Same (pos 0) (given whole c) (given whole e) ↔ Equal c e
-equal-given c e = (there, (λ q. rw (given-same whole c e q) (same-refl (pos 0) (given whole e))))
+pub equal-given : (c e : Pair) → Same (pos 0) (figuresOf whole c) (figuresOf whole e) ↔ Equal c e
+equal-given c e = (there, (λ q. rw (given-same whole c e q) (same-refl (pos 0) (figuresOf whole e))))
   where
-    there : Same (pos 0) (given whole c) (given whole e) → Equal c e
+    there : Same (pos 0) (figuresOf whole c) (figuresOf whole e) → Equal c e
     there q =
         let h : horizon c ≡ horizon e = cc (given-horizon whole c, q .horizons, given-horizon whole e) in
         same-by 0 h (λ d u v.
-        let w : d ≤ horizon (given whole c) = rw (given-horizon whole c) v in
+        let w : d ≤ horizon (figuresOf whole c) = rw (given-horizon whole c) v in
         let v′ : d ≤ horizon e = rw (sym h) v in (
           cc (given-upper whole c d u v, q .uppers d u w, given-upper whole e d u v′),
           cc (given-lower whole c d u v, q .lowers d u w, given-lower whole e d u v′),
         ))
 
-pub settled-given : (c : Pair) → ¬ Crossed cutOff c → Settled whole (given whole c) ↔ Settled cutOff c
+pub settled-given : (c : Pair) → ¬ Crossed cutOff c → Settled whole (figuresOf whole c) ↔ Settled cutOff c
 settled-given c n =
     ⊎-elim
     (λ e. rw e (equal-given (round cutOff c) c))
@@ -95,7 +95,7 @@ module _ (A B : Arithmetic) (p : Pair) (tie : (k : ℕ) → Tied A B p k) (n : �
 module _ (p : Pair) where
   -- After any number of rounds: once both have crossed, both stay crossed.
   pub agree : (n : ℕ)
-      → (after whole n p ≡ given whole (after cutOff n p)) ⊎ (Crossed whole (after whole n p) × Crossed cutOff (after cutOff n p))
+      → (after whole n p ≡ figuresOf whole (after cutOff n p)) ⊎ (Crossed whole (after whole n p) × Crossed cutOff (after cutOff n p))
   unfolding after
   agree zero = inl (sym (given-cut p))
   agree (suc n) =
@@ -116,7 +116,7 @@ module _ (p : Pair) where
       record {
         crossed = rw e (crossed-given c);
         settled = λ un. rw e (settled-given c (λ x. un (rw e (crossed-given c .1 x))));
-        figures = λ un q. rw e (rw (given-cut q) at (equal-given c (given cutOff q)));
+        figures = λ un q. rw e (rw (given-cut q) at (equal-given c (figuresOf cutOff q)));
       })
       (λ x. record { crossed = ((λ y. x .1), (λ y. x .0)); settled = λ un. absurd (un (x .0)); figures = λ un. absurd (un (x .0)) })
       (agree n)

@@ -7,8 +7,8 @@ use native.Mathlib.Nat.{one-le-pow}
 use lib.IntN.{pos}
 use Rattle.laws.proofs.Best.{fold-ext}
 use Rattle.laws.proofs.Search.{every, below-suc}
-use Rattle.curves.specs.Pairs.{horizon, Pair, ceiling, least, Equal, slack}
-use Rattle.curves.specs.Rounds.{Arithmetic, cutOff, given, round, after, Crossed, Settled, Runs, Arrives}
+use Rattle.curves.specs.Pairs.{horizon, Pair, upperAt, lowerAt, Equal, slack}
+use Rattle.curves.specs.Rounds.{Arithmetic, cutOff, figuresOf, round, after, Crossed, Settled, Runs, Arrives}
 use Rattle.curves.specs.Theorems.{Closes, ArrivesOrCrosses, NeverBoth, ArrivesOnce, CrossesOnce}
 use Rattle.curves.specs.Theorems.{RoundsWithinSlack, EndsWithin, EndsWithinLogarithm}
 use Rattle.curves.proofs.Figures.{round-horizon, same-by, same-sym, same-trans}
@@ -22,8 +22,8 @@ crossed? c =
     ⊎-elim
     (λ h. inl (λ x. omega (arith, h (x .window) (x .positive) (x .within), x .above)))
     inr
-    (every (λ d. least c d ≤ ceiling c d) (Crossed cutOff c) (horizon c) (λ d u v.
-    elim (decLe (least c d) (ceiling c d)) [
+    (every (λ d. lowerAt c d ≤ upperAt c d) (Crossed cutOff c) (horizon c) (λ d u v.
+    elim (decLe (lowerAt c d) (upperAt c d)) [
       | yes h ↦ inl h
       | no h ↦ inr (record { window = d; positive = u; within = v; above = omega arith })
     ]))
@@ -33,9 +33,9 @@ equal? c e s =
     ⊎-elim
     (λ h. inl (same-by 0 s h))
     inr
-    (every (λ d. (ceiling c d ≡ ceiling e d) × (least c d ≡ least e d)) (¬ Equal c e) (horizon c) (λ d u v.
-    elim (ℕ-discrete (ceiling c d) (ceiling e d)) [
-      | yes h ↦ elim (ℕ-discrete (least c d) (least e d)) [ yes l ↦ inl (h, l) | no l ↦ inr (λ q. l (q .lowers d u v)) ]
+    (every (λ d. (upperAt c d ≡ upperAt e d) × (lowerAt c d ≡ lowerAt e d)) (¬ Equal c e) (horizon c) (λ d u v.
+    elim (ℕ-discrete (upperAt c d) (upperAt e d)) [
+      | yes h ↦ elim (ℕ-discrete (lowerAt c d) (lowerAt e d)) [ yes l ↦ inl (h, l) | no l ↦ inr (λ q. l (q .lowers d u v)) ]
       | no h ↦ inr (λ q. h (q .uppers d u v))
     ]))
 
@@ -111,7 +111,7 @@ slack-equal p q s =
 slack-left : (p : Pair) (n : ℕ) → Runs cutOff p n → ¬ Crossed cutOff (after cutOff n p)
     → (k : ℕ) → k ≤ n → k + slack (after cutOff k p) ≤ slack p
 unfolding after
-slack-left p n r h zero l = omega (arith, slack-equal (given cutOff p) p (given-equal p))
+slack-left p n r h zero l = omega (arith, slack-equal (figuresOf cutOff p) p (given-equal p))
 slack-left p n r h (suc k) l =
     let next : ¬ Crossed cutOff (after cutOff (suc k) p) =
     below-suc (λ j. ¬ Crossed cutOff (after cutOff j p)) n (r .uncrossed) h (suc k) (omega arith) in

@@ -1,6 +1,6 @@
 -- Closed pairs, whose figures keep to all that they imply: the causal pairs, and those that a round leaves as they are. Assumes nothing.
 use Rattle.laws.proofs.Base.{ℕ, zero, suc, _+_, _-_, _≤_, _≡_, refl, le-refl, arith}
-use Rattle.curves.specs.Pairs.{horizon, figure, Pair, ceiling, least}
+use Rattle.curves.specs.Pairs.{horizon, figure, Pair, upperAt, lowerAt}
 use Rattle.curves.specs.Rounds.{cutOff, round, Crossed, Settled, Causal}
 use Rattle.curves.proofs.Figures.{round-horizon, same-by, same-crossed}
 use Rattle.curves.proofs.Tightened.{upper-falls, lower-rises, round-within, Tightened, tightened}
@@ -11,7 +11,7 @@ Closed p = Tightened p p
 
 -- A causal pair is closed: a round tightens it, and leaves its figures as they are.
 settled-figures : (p : Pair) → Settled cutOff p → (d : ℕ) → d ≤ horizon p
-    → (ceiling (round cutOff p) d ≡ ceiling p d) × (least (round cutOff p) d ≡ least p d)
+    → (upperAt (round cutOff p) d ≡ upperAt p d) × (lowerAt (round cutOff p) d ≡ lowerAt p d)
 unfolding figure
 settled-figures p s zero v = (refl, refl)
 settled-figures p s (suc d) v =
@@ -34,7 +34,7 @@ closed p c =
     t : Tightened p (round cutOff p)
     t = tightened p (λ x. uncrossed (same-crossed cutOff _ _ settled x))
 
-    same : (d : ℕ) → d ≤ horizon p → (ceiling (round cutOff p) d ≡ ceiling p d) × (least (round cutOff p) d ≡ least p d)
+    same : (d : ℕ) → d ≤ horizon p → (upperAt (round cutOff p) d ≡ upperAt p d) × (lowerAt (round cutOff p) d ≡ lowerAt p d)
     same = settled-figures p settled
 
 -- No candidate of a round is better than the figure of a closed pair.
@@ -46,7 +46,7 @@ settles p t =
       arith,
       upper-falls p d w,
       lower-rises p d w,
-      round-within p d (ceiling p d) (least p d) u w (le-refl _, le-refl _)
+      round-within p d (upperAt p d) (lowerAt p d) u w (le-refl _, le-refl _)
           (λ a l m.
           let e : a + (d - a) ≡ d = omega arith in
           omega (arith, rw e at (t .plus a (d - a) (omega arith))))

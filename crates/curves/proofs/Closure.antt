@@ -3,10 +3,10 @@
 use Rattle.laws.proofs.Base.{ℕ, _≤_, _≡_, sym, _∙_, List, _↔_, arith}
 use lib.IntN.{pos}
 use Rattle.curves.specs.Streams.{sum, Begins}
-use Rattle.curves.specs.Pairs.{horizon, Pair, ceiling, least, Equal}
+use Rattle.curves.specs.Pairs.{horizon, Pair, upperAt, lowerAt, Equal}
 use Rattle.curves.specs.Conformance.{Conforms, Conforms∞}
 use Rattle.curves.specs.Ticks.{then, Range}
-use Rattle.curves.specs.Rounds.{whole, given, after, Arrives}
+use Rattle.curves.specs.Rounds.{whole, figuresOf, after, Arrives}
 use Rattle.curves.specs.Theorems.{ClosureIsCausal, CausalIffOwnClosure, CausalTakesNoRound, OneMoreTick}
 use Rattle.curves.proofs.Figures.{given-full, same-refl, full-same, after-full, given-same, given-horizon, after-horizon}
 use Rattle.curves.proofs.Kept.{rounds-keep-streams}
@@ -19,13 +19,13 @@ use Rattle.curves.proofs.NextTick.{conforms-keeps, keeps-conforms, rang
 -- ---- the closure is causal
 pub closure-is-causal : ClosureIsCausal
 closure-is-causal p q n a =
-    let e : after whole n p ≡ given whole q = full-same (pos 0) _ _ (after-full whole n p) (given-full whole q) (a .figures) in
+    let e : after whole n p ≡ figuresOf whole q = full-same (pos 0) _ _ (after-full whole n p) (given-full whole q) (a .figures) in
     record { uncrossed = rw e at (a .uncrossed); settled = rw e at (a .settled) }
 
 pub causal-takes-no-round : CausalTakesNoRound
 unfolding after
 causal-takes-no-round p c =
-    record { runs = runs-none whole p; uncrossed = c .uncrossed; settled = c .settled; figures = same-refl (pos 0) (given whole p) }
+    record { runs = runs-none whole p; uncrossed = c .uncrossed; settled = c .settled; figures = same-refl (pos 0) (figuresOf whole p) }
 
 pub causal-iff-own-closure : CausalIffOwnClosure
 causal-iff-own-closure p = ((λ c. (0, causal-takes-no-round p c)), (λ a. closure-is-causal p p (a .0) (a .1)))
@@ -68,11 +68,11 @@ module _ (p q : Pair) (n : ℕ) (a : Arrives whole p n q) where
     follow : (g : ℕ → ℕ) → Follows q g → (s : ℕ → ℕ) × Conforms∞ p s × ((d : ℕ) → d ≤ horizon p → sum s 0 d ≡ g d)
     follow g f = (f .0, closure-streams (f .0) .1 (f .1), λ d v. f .2 d (rw closure-horizon v))
 
-    pub closure-upper : (s : ℕ → ℕ) × Conforms∞ p s × ((d : ℕ) → d ≤ horizon p → sum s 0 d ≡ ceiling q d)
-    closure-upper = follow (ceiling q) (follows-upper q closure-closed h′)
+    pub closure-upper : (s : ℕ → ℕ) × Conforms∞ p s × ((d : ℕ) → d ≤ horizon p → sum s 0 d ≡ upperAt q d)
+    closure-upper = follow (upperAt q) (follows-upper q closure-closed h′)
 
-    pub closure-lower : (s : ℕ → ℕ) × Conforms∞ p s × ((d : ℕ) → d ≤ horizon p → sum s 0 d ≡ least q d)
-    closure-lower = follow (least q) (follows-lower q closure-closed h′)
+    pub closure-lower : (s : ℕ → ℕ) × Conforms∞ p s × ((d : ℕ) → d ≤ horizon p → sum s 0 d ≡ lowerAt q d)
+    closure-lower = follow (lowerAt q) (follows-lower q closure-closed h′)
 
 -- Arrived at a closure, so at any equal one.
 pub arrives-equal : (p q r : Pair) (n : ℕ) → Arrives whole p n q → Equal q r → Arrives whole p n r
@@ -81,7 +81,7 @@ arrives-equal p q r n a e =
 
 -- No figure of the closure is above the pair's ceiling: a conforming stream meets the closure's.
 pub closure-figures : (p q : Pair) (n : ℕ) → Arrives whole p n q → (d : ℕ) → 1 ≤ d → d ≤ horizon p
-    → (ceiling q d ≤ ceiling p d) × (least q d ≤ ceiling p d)
+    → (upperAt q d ≤ upperAt p d) × (lowerAt q d ≤ upperAt p d)
 closure-figures p q n a d u v =
     let (s, c, f) = closure-upper p q n a (omega arith) in
     let (t, k, g) = closure-lower p q n a (omega arith) in

@@ -2,7 +2,7 @@
 use Rattle.laws.proofs.Base.{ℕ, zero, suc, _+_, _-_, _≤_, min, max, _≡_, refl, List, [], _∷_, _++_, decLe, arith}
 use Rattle.laws.specs.Tests.{Each}
 use Rattle.laws.proofs.Tests.{each-append}
-use Rattle.curves.specs.Pairs.{horizon, figure, Pair, ceiling, least}
+use Rattle.curves.specs.Pairs.{horizon, figure, Pair, upperAt, lowerAt}
 use Rattle.curves.specs.Rounds.{cutOff, round}
 use Rattle.curves.proofs.Figures.{round-upper, round-lower, new-holds}
 
@@ -24,7 +24,7 @@ pub record Combination (H : ℕ) (c : Pair) (x z u l : ℕ) : Type 0 where
   pub ups-fit : Each (λ a. a ≤ H) ups
   pub downs-fit : Each (λ b. b ≤ H) downs
   pub lead : x + total (λ a. a) ups ≡ z + total (λ b. b) downs
-  pub cost : total (ceiling c) ups + l ≤ u + total (least c) downs
+  pub cost : total (upperAt c) ups + l ≤ u + total (lowerAt c) downs
 
 module _ (H : ℕ) (c : Pair) where
   none : Combination H c 0 0 0 0
@@ -46,8 +46,8 @@ module _ (H : ℕ) (c : Pair) where
               arith,
               s .cost,
               t .cost,
-              total-append (ceiling c) (s .ups) (t .ups),
-              total-append (least c) (s .downs) (t .downs),
+              total-append (upperAt c) (s .ups) (t .ups),
+              total-append (lowerAt c) (s .downs) (t .downs),
             );
       }
 
@@ -56,7 +56,7 @@ module _ (H : ℕ) (c : Pair) where
 
   -- Every figure of e is a combination of figures of c: a ceiling of one that leads up by its window, a least of one that leads down.
   abbrev pub Combined : Pair → Type 0
-  Combined e = (d : ℕ) → d ≤ H → Combination H c 0 d (ceiling e d) 0 × Combination H c d 0 0 (least e d)
+  Combined e = (d : ℕ) → d ≤ H → Combination H c 0 d (upperAt e d) 0 × Combination H c d 0 0 (lowerAt e d)
 
   -- Those of c itself, of one window each.
   pub single : Combined c
@@ -73,18 +73,18 @@ module _ (H : ℕ) (c : Pair) where
   round-combined e h m (suc d) v =
       let w : suc d ≤ horizon e = rw h v in (
         rw (round-upper cutOff e (suc d) (omega arith) w)
-            (new-holds cutOff min (horizon e) (ceiling e) (least e) (suc d) (λ x. Combination H c 0 (suc d) x 0)
+            (new-holds cutOff min (horizon e) (upperAt e) (lowerAt e) (suc d) (λ x. Combination H c 0 (suc d) x 0)
             (λ x y p q. elim (decLe x y) [ yes l ↦ dearer p (omega arith) | no l ↦ dearer q (omega arith) ])
             (m (suc d) v .0)
             (λ a p q. together (m a (omega arith) .0) (m (suc d - a) (omega arith) .0) (omega arith) (omega arith))
             (λ t p q. together (m (suc d + t) (rw h at q) .0) (m t (omega arith) .1) (omega arith) (omega arith))),
         rw (round-lower cutOff e (suc d) (omega arith) w)
-            (new-holds cutOff max (horizon e) (least e) (ceiling e) (suc d) (λ x. Combination H c (suc d) 0 0 x)
+            (new-holds cutOff max (horizon e) (lowerAt e) (upperAt e) (suc d) (λ x. Combination H c (suc d) 0 0 x)
             (λ x y p q. elim (decLe x y) [ yes l ↦ dearer q (omega arith) | no l ↦ dearer p (omega arith) ])
             (m (suc d) v .1)
             (λ a p q. together (m a (omega arith) .1) (m (suc d - a) (omega arith) .1) (omega arith) (omega arith))
             (λ t p q.
-            elim (decLe (ceiling e t) (least e (suc d + t))) [
+            elim (decLe (upperAt e t) (lowerAt e (suc d + t))) [
               | yes l ↦ together (m (suc d + t) (rw h at q) .1) (m t (omega arith) .0) (omega arith) (omega arith)
               | no l ↦ dearer (m (suc d) v .1) (omega arith)
             ])),

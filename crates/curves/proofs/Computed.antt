@@ -3,7 +3,7 @@ use Rattle.laws.proofs.Base.{ℕ, zero, suc, Bool, true, false, _&&_, _⊎_, in
 use mathlib.Core.Bool.{not, _||_}
 use lib.Dec.{T}
 use Rattle.curves.specs.Pairs.{Pair, horizon, Equal}
-use Rattle.curves.specs.Rounds.{whole, cutOff, given, round, after, Runs, Arrives, Crosses}
+use Rattle.curves.specs.Rounds.{whole, cutOff, figuresOf, round, after, Runs, Arrives, Crosses}
 use Rattle.curves.proofs.Agreement.{cut-off-arrives, cut-off-crosses}
 use Rattle.curves.proofs.Arrival.{crossed?, equal?, runs-none, runs-more}
 
@@ -47,7 +47,7 @@ unfoldable pub arrives? : Pair → ℕ → Pair → Bool
 arrives? p n q =
     runs? p n
     && (left? (crossed? (after cutOff n p))
-    && (left? (same? (round cutOff (after cutOff n p)) (after cutOff n p)) && left? (same? (after cutOff n p) (given cutOff q))))
+    && (left? (same? (round cutOff (after cutOff n p)) (after cutOff n p)) && left? (same? (after cutOff n p) (figuresOf cutOff q))))
 
 pub arrives-computed : (p : Pair) (n : ℕ) (q : Pair) → T (arrives? p n q) → Arrives whole p n q
 unfolding arrives?
@@ -60,7 +60,7 @@ arrives-computed p n q t =
       runs = runs p n r;
       uncrossed = left (crossed? (after cutOff n p)) u;
       settled = left (same? (round cutOff (after cutOff n p)) (after cutOff n p)) s;
-      figures = left (same? (after cutOff n p) (given cutOff q)) f;
+      figures = left (same? (after cutOff n p) (figuresOf cutOff q)) f;
     })
 
 unfoldable pub crosses? : Pair → ℕ → Bool

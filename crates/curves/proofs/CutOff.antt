@@ -5,8 +5,8 @@ use Rattle.laws.proofs.Best.{fold-map}
 use Rattle.laws.proofs.Table.{table-same}
 use Rattle.laws.proofs.Search.{every}
 use Rattle.laws.proofs.Whole.{AtMost, parts-lt, smaller-best, smaller-pos, larger-pos, minus-pos, larger-minus}
-use Rattle.curves.specs.Pairs.{Curves, horizon, Pair, ceiling, least}
-use Rattle.curves.specs.Rounds.{whole, cutOff, given, round, newFigure, newUpper, newLower, Crossed, upperAt, lowerAt}
+use Rattle.curves.specs.Pairs.{Curves, horizon, Pair, figure, upperAt, lowerAt}
+use Rattle.curves.specs.Rounds.{whole, cutOff, figuresOf, round, newFigure, newUpper, newLower, Crossed}
 use Rattle.curves.proofs.Figures.{given-horizon, given-upper, given-lower, round-horizon, round-upper, round-lower, new-old}
 use Rattle.curves.proofs.Tightened.{upper-falls, round-plus}
 
@@ -29,34 +29,34 @@ module _ (best′ : ℤ → ℤ → ℤ) (best : ℕ → ℕ → ℕ) (H : ℕ) 
 module _ (c : Pair) where
   -- The pair's figures as whole numbers.
   abbrev exact : Curves ℤ
-  exact = given whole c
+  exact = figuresOf whole c
 
   -- The new leasts always agree: a negative difference is below the old least.
-  lower-agrees : (d : ℕ) → 1 ≤ d → d ≤ horizon c → newLower whole exact d ≡ pos (least (round cutOff c) d)
+  lower-agrees : (d : ℕ) → 1 ≤ d → d ≤ horizon c → newLower whole exact d ≡ pos (lowerAt (round cutOff c) d)
   lower-agrees d u v =
       rw (round-lower cutOff c d u v)
-      (new-agrees (whole .larger) max (horizon c) (least c) (ceiling c) _ _ (given-lower whole c) (given-upper whole c) larger-pos d u v
+      (new-agrees (whole .larger) max (horizon c) (lowerAt c) (upperAt c) _ _ (given-lower whole c) (given-upper whole c) larger-pos d u v
       (horizon exact) (given-horizon whole c)
-      (λ t y p q. larger-minus y (least c (d + t)) (ceiling c t)))
+      (λ t y p q. larger-minus y (lowerAt c (d + t)) (upperAt c t)))
 
   -- The new ceiling agrees where no difference is negative.
-  upper-agrees : (d : ℕ) → 1 ≤ d → d ≤ horizon c → ((t : ℕ) → 1 ≤ t → t ≤ horizon c - d → least c t ≤ ceiling c (d + t))
-      → newUpper whole exact d ≡ pos (ceiling (round cutOff c) d)
+  upper-agrees : (d : ℕ) → 1 ≤ d → d ≤ horizon c → ((t : ℕ) → 1 ≤ t → t ≤ horizon c - d → lowerAt c t ≤ upperAt c (d + t))
+      → newUpper whole exact d ≡ pos (upperAt (round cutOff c) d)
   upper-agrees d u v n =
       rw (round-upper cutOff c d u v)
-      (new-agrees (whole .smaller) min (horizon c) (ceiling c) (least c) _ _ (given-upper whole c) (given-lower whole c) smaller-pos d u v
+      (new-agrees (whole .smaller) min (horizon c) (upperAt c) (lowerAt c) _ _ (given-upper whole c) (given-lower whole c) smaller-pos d u v
       (horizon exact) (given-horizon whole c)
-      (λ t y p q. rw (minus-pos (ceiling c (d + t)) (least c t) (n t p (omega arith))) (smaller-pos y _)))
+      (λ t y p q. rw (minus-pos (upperAt c (d + t)) (lowerAt c t) (n t p (omega arith))) (smaller-pos y _)))
 
   -- Where one is negative, both rounds cross at the longer window: its new least is at least the sum of the two parts' leasts.
   abbrev pub BothCross : Type 0
-  BothCross = Crossed whole (round whole (given whole c)) × Crossed cutOff (round cutOff c)
+  BothCross = Crossed whole (round whole (figuresOf whole c)) × Crossed cutOff (round cutOff c)
 
-  negative-crosses : (d t : ℕ) → 1 ≤ d → 1 ≤ t → d + t ≤ horizon c → ceiling c (d + t) < least c t → BothCross
+  negative-crosses : (d t : ℕ) → 1 ≤ d → 1 ≤ t → d + t ≤ horizon c → upperAt c (d + t) < lowerAt c t → BothCross
   negative-crosses d t u p q n =
       let w : 1 ≤ d + t = omega arith in
       let q′ : d + t ≤ horizon exact = rw (given-horizon whole c) q in
-      let low = new-old whole AtMost (whole .smaller) smaller-best (horizon exact) (upperAt whole exact) (lowerAt whole exact) (d + t) in (
+      let low = new-old whole AtMost (whole .smaller) smaller-best (horizon exact) (figure (whole .of 0) (exact .upper)) (figure (whole .of 0) (exact .lower)) (d + t) in (
         record {
           window = d + t;
           positive = w;
@@ -75,10 +75,10 @@ module _ (c : Pair) where
 
   -- No difference is negative.
   abbrev NoneNegative : Type 0
-  NoneNegative = (d : ℕ) → 1 ≤ d → d ≤ horizon c → (t : ℕ) → 1 ≤ t → t ≤ horizon c - d → least c t ≤ ceiling c (d + t)
+  NoneNegative = (d : ℕ) → 1 ≤ d → d ≤ horizon c → (t : ℕ) → 1 ≤ t → t ≤ horizon c - d → lowerAt c t ≤ upperAt c (d + t)
 
-  all-agree : NoneNegative → round whole exact ≡ given whole (round cutOff c)
-  unfolding round given
+  all-agree : NoneNegative → round whole exact ≡ figuresOf whole (round cutOff c)
+  unfolding round figuresOf
   all-agree n =
       let h : horizon exact ≡ horizon (round cutOff c) = given-horizon whole c ∙ sym (round-horizon cutOff c) in
       let inner : (d : ℕ) → d ≤ horizon exact → d ≤ horizon c = λ d v. rw (given-horizon whole c) at v in
@@ -88,11 +88,11 @@ module _ (c : Pair) where
         lower = table-same _ _ (horizon exact) _ h (λ d u v. lower-agrees d u (inner d v)) i;
       }
 
-  pub round-agrees : (round whole (given whole c) ≡ given whole (round cutOff c)) ⊎ BothCross
+  pub round-agrees : (round whole (figuresOf whole c) ≡ figuresOf whole (round cutOff c)) ⊎ BothCross
   round-agrees =
       ⊎-map all-agree (λ x. x)
       (every _ BothCross (horizon c) (λ d u v. every _ BothCross (horizon c - d) (λ t p q.
-      elim (decLe (least c t) (ceiling c (d + t))) [
+      elim (decLe (lowerAt c t) (upperAt c (d + t))) [
         | yes h ↦ inl h
         | no h ↦ inr (negative-crosses d t u p (omega arith) (omega arith))
       ])))

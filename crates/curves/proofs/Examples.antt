@@ -4,9 +4,9 @@ use lib.IntN.{pos, negsuc}
 use Rattle.laws.specs.Ranges.{fold, table}
 use Rattle.laws.proofs.Search.{every}
 use Rattle.curves.specs.Streams.{sum, countsOf}
-use Rattle.curves.specs.Pairs.{Pair, pairOf, horizon, figure, ceiling, slack}
+use Rattle.curves.specs.Pairs.{Pair, pairOf, horizon, figure, upperAt, slack}
 use Rattle.curves.specs.Ticks.{newest, passed, tooMany, tooFew}
-use Rattle.curves.specs.Rounds.{whole, cutOff, newFigure, round, given, after, Runs, Arrives}
+use Rattle.curves.specs.Rounds.{whole, cutOff, newFigure, round, figuresOf, after, Runs, Arrives}
 use Rattle.curves.proofs.Arrival.{crossed?, equal?}
 use Rattle.curves.proofs.Computed.{left?, same?, runs?, arrives?, arrives-computed}
 use Rattle.curves.proofs.Verdicts.{inside?, judged?, find, turned-down, verdict?}
@@ -22,7 +22,7 @@ window-sum : sum (countsOf (0 ∷ 2 ∷ 1 ∷ 0 ∷ 2 ∷ 0 ∷ [])) 1 4 ≡ 5
 unfolding sum
 window-sum = refl
 
-fourth-ceiling : ceiling published 4 ≡ 12
+fourth-ceiling : upperAt published 4 ≡ 12
 unfolding figure
 fourth-ceiling = refl
 
@@ -31,33 +31,33 @@ unfolding fold figure
 published-slack = refl
 
 negative-ceiling : after whole 1 falling .upper ≡ negsuc 3 ∷ pos 1 ∷ []
-unfolding after given round newFigure fold table figure
+unfolding after figuresOf round newFigure fold table figure
 negative-ceiling = refl
 
 -- Cut off at 0 the same ceiling is 0; the leasts are the same, and cross with either.
 cut-off-ceiling : after cutOff 1 falling ≡ pairOf (0 ∷ 1 ∷ []) (5 ∷ 10 ∷ [])
-unfolding after given round newFigure fold table figure
+unfolding after figuresOf round newFigure fold table figure
 cut-off-ceiling = refl
 
 exact-leasts : after whole 1 falling .lower ≡ pos 5 ∷ pos 10 ∷ []
-unfolding after given round newFigure fold table figure
+unfolding after figuresOf round newFigure fold table figure
 exact-leasts = refl
 
 published-first : after whole 1 published .upper ≡ pos 3 ∷ pos 3 ∷ pos 3 ∷ pos 6 ∷ pos 9 ∷ []
-unfolding after given round newFigure fold table figure
+unfolding after figuresOf round newFigure fold table figure
 published-first = refl
 
-published-closed : after whole 4 published ≡ given whole (pairOf (1 ∷ 2 ∷ 3 ∷ 4 ∷ 5 ∷ []) (1 ∷ 2 ∷ 3 ∷ 4 ∷ 5 ∷ []))
-unfolding after given round newFigure fold table figure
+published-closed : after whole 4 published ≡ figuresOf whole (pairOf (1 ∷ 2 ∷ 3 ∷ 4 ∷ 5 ∷ []) (1 ∷ 2 ∷ 3 ∷ 4 ∷ 5 ∷ []))
+unfolding after figuresOf round newFigure fold table figure
 published-closed = refl
 
 -- ---- as many rounds as a pair can take: at a horizon of 3, which is at most 2^2, and at one of 5, which is at most 2^3
 three-rounds : Arrives whole (pairOf (2 ∷ 2 ∷ 3 ∷ []) (0 ∷ 2 ∷ 0 ∷ [])) 3 (pairOf (1 ∷ 2 ∷ 3 ∷ []) (1 ∷ 2 ∷ 3 ∷ []))
-unfolding arrives? runs? left? same? crossed? equal? every decLe ℕ-discrete after given round newFigure fold table figure
+unfolding arrives? runs? left? same? crossed? equal? every decLe ℕ-discrete after figuresOf round newFigure fold table figure
 three-rounds = arrives-computed _ 3 _ tt
 
 four-rounds : Arrives whole published 4 (pairOf (1 ∷ 2 ∷ 3 ∷ 4 ∷ 5 ∷ []) (1 ∷ 2 ∷ 3 ∷ 4 ∷ 5 ∷ []))
-unfolding arrives? runs? left? same? crossed? equal? every decLe ℕ-discrete after given round newFigure fold table figure
+unfolding arrives? runs? left? same? crossed? equal? every decLe ℕ-discrete after figuresOf round newFigure fold table figure
 four-rounds = arrives-computed published 4 _ tt
 
 -- So no smaller bound than k + 1 holds for every k.

@@ -5,8 +5,8 @@ use mathlib.Core.Path.{subst₂}
 use Rattle.laws.specs.Ranges.{table}
 use Rattle.laws.proofs.Best.{IsBest, fold-holds, fold-first, fold-each}
 use Rattle.laws.proofs.Table.{length-table, getD-table, table-self, table-same}
-use Rattle.curves.specs.Pairs.{Curves, horizon, figure, Same, Pair, ceiling, least}
-use Rattle.curves.specs.Rounds.{Arithmetic, cutOff, newFigure, newUpper, newLower, round, given, after, upperAt, lowerAt, Crossed}
+use Rattle.curves.specs.Pairs.{Curves, horizon, figure, Same, Pair, upperAt, lowerAt}
+use Rattle.curves.specs.Rounds.{Arithmetic, cutOff, newFigure, newUpper, newLower, round, figuresOf, after, Crossed}
 
 figure-table : {N : Type 0} (z : N) (f : ℕ → N) (n d : ℕ) → 1 ≤ d → d ≤ n → figure z (table f n) d ≡ f d
 unfolding figure
@@ -25,10 +25,10 @@ unfolding figure
 table-figures us = table-self (figure 0 us) us 0 (λ i h. refl)
 
 -- A pair with as many leasts as ceilings is its own figures.
-pub given-self : (p : Pair) → length (p .lower) ≡ length (p .upper) → given cutOff p ≡ p
-unfolding given
+pub given-self : (p : Pair) → length (p .lower) ≡ length (p .upper) → figuresOf cutOff p ≡ p
+unfolding figuresOf
 given-self p e =
-    let lowers : table (λ d. least p d) (horizon p) ≡ p .lower = rw (sym e) (table-figures (p .lower)) in
+    let lowers : table (λ d. lowerAt p d) (horizon p) ≡ p .lower = rw (sym e) (table-figures (p .lower)) in
     λ i. record { upper = table-figures (p .upper) i; lower = lowers i }
 
 -- Equality of curves is an equivalence; with both lists as long as the horizon, equal curves are one.
@@ -66,7 +66,7 @@ module _ {N : Type 0} (z : N) where
 
 -- Curves of one horizon, of any two kinds of numbers: if each least above its ceiling in the one is so in the other, they cross together.
 pub crossed-moved : {A B : Arithmetic} (c : Curves (A .Number)) (e : Curves (B .Number)) → horizon c ≡ horizon e
-    → ((d : ℕ) → 1 ≤ d → d ≤ horizon c → A .Below (upperAt A c d) (lowerAt A c d) → B .Below (upperAt B e d) (lowerAt B e d))
+    → ((d : ℕ) → 1 ≤ d → d ≤ horizon c → A .Below (figure (A .of 0) (c .upper) d) (figure (A .of 0) (c .lower) d) → B .Below (figure (B .of 0) (e .upper) d) (figure (B .of 0) (e .lower) d))
     → Crossed A c → Crossed B e
 crossed-moved c e h f x =
     let d : ℕ = x .window in
@@ -77,8 +77,8 @@ module _ (A : Arithmetic) where
   unfolding round
   round-horizon c = length-table _ (horizon c)
 
-  pub given-horizon : (p : Pair) → horizon (given A p) ≡ horizon p
-  unfolding given
+  pub given-horizon : (p : Pair) → horizon (figuresOf A p) ≡ horizon p
+  unfolding figuresOf
   given-horizon p = length-table _ (horizon p)
 
   pub after-horizon : (n : ℕ) (p : Pair) → horizon (after A n p) ≡ horizon p
@@ -91,8 +91,8 @@ module _ (A : Arithmetic) where
   unfolding round
   round-full c = length-table _ (horizon c) ∙ sym (length-table _ (horizon c))
 
-  pub given-full : (p : Pair) → length (given A p .lower) ≡ horizon (given A p)
-  unfolding given
+  pub given-full : (p : Pair) → length (figuresOf A p .lower) ≡ horizon (figuresOf A p)
+  unfolding figuresOf
   given-full p = length-table _ (horizon p) ∙ sym (length-table _ (horizon p))
 
   pub after-full : (n : ℕ) (p : Pair) → length (after A n p .lower) ≡ horizon (after A n p)
@@ -100,17 +100,17 @@ module _ (A : Arithmetic) where
   after-full zero p = given-full p
   after-full (suc n) p = round-full (after A n p)
 
-  pub given-upper : (p : Pair) (d : ℕ) → 1 ≤ d → d ≤ horizon p → upperAt A (given A p) d ≡ A .of (ceiling p d)
-  unfolding given
+  pub given-upper : (p : Pair) (d : ℕ) → 1 ≤ d → d ≤ horizon p → figure (A .of 0) (figuresOf A p .upper) d ≡ A .of (upperAt p d)
+  unfolding figuresOf
   given-upper p = figure-table (A .of 0) _ (horizon p)
 
-  pub given-lower : (p : Pair) (d : ℕ) → 1 ≤ d → d ≤ horizon p → lowerAt A (given A p) d ≡ A .of (least p d)
-  unfolding given
+  pub given-lower : (p : Pair) (d : ℕ) → 1 ≤ d → d ≤ horizon p → figure (A .of 0) (figuresOf A p .lower) d ≡ A .of (lowerAt p d)
+  unfolding figuresOf
   given-lower p = figure-table (A .of 0) _ (horizon p)
 
   -- Equal pairs have equal figures of any kind.
-  pub given-same : (c e : Pair) → Same 0 c e → given A c ≡ given A e
-  unfolding given
+  pub given-same : (c e : Pair) → Same 0 c e → figuresOf A c ≡ figuresOf A e
+  unfolding figuresOf
   given-same c e q =
       λ i.
       record {
@@ -121,11 +121,11 @@ module _ (A : Arithmetic) where
   pub same-crossed : (c e : Curves (A .Number)) → Same (A .of 0) c e → Crossed A c → Crossed A e
   same-crossed c e q = crossed-moved c e (q .horizons) (λ d u v. subst₂ (A .Below) (q .uppers d u v) (q .lowers d u v))
 
-  pub round-upper : (c : Curves (A .Number)) (d : ℕ) → 1 ≤ d → d ≤ horizon c → upperAt A (round A c) d ≡ newUpper A c d
+  pub round-upper : (c : Curves (A .Number)) (d : ℕ) → 1 ≤ d → d ≤ horizon c → figure (A .of 0) (round A c .upper) d ≡ newUpper A c d
   unfolding round
   round-upper c = figure-table (A .of 0) (newUpper A c) (horizon c)
 
-  pub round-lower : (c : Curves (A .Number)) (d : ℕ) → 1 ≤ d → d ≤ horizon c → lowerAt A (round A c) d ≡ newLower A c d
+  pub round-lower : (c : Curves (A .Number)) (d : ℕ) → 1 ≤ d → d ≤ horizon c → figure (A .of 0) (round A c .lower) d ≡ newLower A c d
   unfolding round
   round-lower c = figure-table (A .of 0) (newLower A c) (horizon c)
 
@@ -171,6 +171,6 @@ module _ (A : Arithmetic) where
   crossed-stays R B B′ further c =
       crossed-moved c (round A c) (sym (round-horizon c)) (λ d u v.
       rw (round-upper c d u v, round-lower c d u v)
-      (further (upperAt A c d) (lowerAt A c d) _ _
-      (new-old R (A .smaller) B (horizon c) (upperAt A c) (lowerAt A c) d)
-      (new-old (λ x y. R y x) (A .larger) B′ (horizon c) (lowerAt A c) (upperAt A c) d)))
+      (further (figure (A .of 0) (c .upper) d) (figure (A .of 0) (c .lower) d) _ _
+      (new-old R (A .smaller) B (horizon c) (figure (A .of 0) (c .upper)) (figure (A .of 0) (c .lower)) d)
+      (new-old (λ x y. R y x) (A .larger) B′ (horizon c) (figure (A .of 0) (c .lower)) (figure (A .of 0) (c .upper)) d)))

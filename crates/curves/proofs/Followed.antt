@@ -4,7 +4,7 @@ use Rattle.laws.proofs.Base.{ℕ, zero, suc, _+_, _-_, _≤_, _<_, _≡_, refl,
 use Rattle.laws.specs.Ranges.{table}
 use Rattle.laws.proofs.Table.{length-table, getD-table}
 use Rattle.curves.specs.Streams.{sum, countsOf}
-use Rattle.curves.specs.Pairs.{Pair, horizon, figure, ceiling, least}
+use Rattle.curves.specs.Pairs.{Pair, horizon, figure, upperAt, lowerAt}
 use Rattle.curves.specs.Conformance.{Conforms, Conforms∞}
 use Rattle.curves.proofs.Sums.{local}
 use Rattle.curves.proofs.Closed.{Closed}
@@ -16,8 +16,8 @@ Follows p g = (s : ℕ → ℕ) × Conforms∞ p s × ((d : ℕ) → d ≤ horiz
 
 -- g grows, over any d ticks more, by no less than their least and no more than their ceiling.
 module _ (p : Pair) (C : Closed p) (h : 1 ≤ horizon p) (g : ℕ → ℕ) (none : g 0 ≡ 0)
-    (least-more : (i d : ℕ) → i + d ≤ horizon p → g i + least p d ≤ g (i + d))
-    (most-more : (i d : ℕ) → i + d ≤ horizon p → g (i + d) ≤ g i + ceiling p d) where
+    (least-more : (i d : ℕ) → i + d ≤ horizon p → g i + lowerAt p d ≤ g (i + d))
+    (most-more : (i d : ℕ) → i + d ≤ horizon p → g (i + d) ≤ g i + upperAt p d) where
   steps : List ℕ
   steps = table (λ d. g d - g (d - 1)) (horizon p)
 
@@ -52,10 +52,10 @@ module _ (p : Pair) (C : Closed p) (h : 1 ≤ horizon p) (g : ℕ → ℕ) (none
           let e : 0 + d ≡ d = omega arith in
           omega (arith, climb 0 d (omega arith), ap g e)
 
-pub follows-upper : (p : Pair) → Closed p → 1 ≤ horizon p → Follows p (ceiling p)
+pub follows-upper : (p : Pair) → Closed p → 1 ≤ horizon p → Follows p (upperAt p)
 unfolding figure
-follows-upper p C h = follows p C h (ceiling p) refl (λ i d l. C .minus i d l .0) (λ i d l. C .plus i d l .0)
+follows-upper p C h = follows p C h (upperAt p) refl (λ i d l. C .minus i d l .0) (λ i d l. C .plus i d l .0)
 
-pub follows-lower : (p : Pair) → Closed p → 1 ≤ horizon p → Follows p (least p)
+pub follows-lower : (p : Pair) → Closed p → 1 ≤ horizon p → Follows p (lowerAt p)
 unfolding figure
-follows-lower p C h = follows p C h (least p) refl (λ i d l. C .plus i d l .1) (λ i d l. C .minus i d l .1)
+follows-lower p C h = follows p C h (lowerAt p) refl (λ i d l. C .plus i d l .1) (λ i d l. C .minus i d l .1)

@@ -5,7 +5,7 @@ use mathlib.Core.Logic.{Iff·symm, Iff·trans}
 use Rattle.curves.specs.Streams.{sum}
 use Rattle.curves.specs.Pairs.{horizon, Pair, Equal}
 use Rattle.curves.specs.Conformance.{Conforms∞}
-use Rattle.curves.specs.Rounds.{whole, cutOff, given, round, after, Crossed}
+use Rattle.curves.specs.Rounds.{whole, cutOff, figuresOf, round, after, Crossed}
 use Rattle.curves.specs.Theorems.{RoundsKeepStreams, CrossedHasNoStream}
 use Rattle.curves.proofs.Sums.{split, split-at}
 use Rattle.curves.proofs.Figures.{round-horizon, same-sym, same-crossed}
@@ -43,7 +43,7 @@ module _ (s : ℕ → ℕ) where
 
   after-keeps : (n : ℕ) (p : Pair) → Conforms∞ (after cutOff n p) s ↔ Conforms∞ p s
   unfolding after
-  after-keeps zero p = equal-streams (given cutOff p) p (given-equal p)
+  after-keeps zero p = equal-streams (figuresOf cutOff p) p (given-equal p)
   after-keeps (suc n) p = Iff·trans (Iff·symm (round-keeps (after cutOff n p))) (after-keeps n p)
 
   -- No sum is at least the least of a window and at most a ceiling below it.

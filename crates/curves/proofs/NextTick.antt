@@ -6,7 +6,7 @@ use lib.Seq.{getD-at}
 use Rattle.laws.specs.Ranges.{fold}
 use Rattle.laws.proofs.Best.{min-best, max-best, fold-each, fold-both}
 use Rattle.curves.specs.Streams.{sum, countsOf}
-use Rattle.curves.specs.Pairs.{Pair, horizon, figure, ceiling, least}
+use Rattle.curves.specs.Pairs.{Pair, horizon, figure, upperAt, lowerAt}
 use Rattle.curves.specs.Conformance.{Inside, Conforms}
 use Rattle.curves.specs.Ticks.{then, last, Keeps, Range}
 use Rattle.curves.proofs.Sums.{split-at, sum-start}
@@ -59,22 +59,22 @@ judged p xs = min (horizon p) (suc (length xs))
 
 -- What the window of d ticks asks of the count at least, and one above what it lets it be at most: 0 where none will do.
 abbrev from : Pair → List ℕ → ℕ → ℕ
-from p xs d = least p d - last xs (d - 1)
+from p xs d = lowerAt p d - last xs (d - 1)
 
 abbrev before : Pair → List ℕ → ℕ → ℕ
-before p xs d = suc (ceiling p d) - last xs (d - 1)
+before p xs d = suc (upperAt p d) - last xs (d - 1)
 
 abbrev pub lo : Pair → List ℕ → ℕ
 lo p xs = fold max 0 (from p xs) (judged p xs)
 
 -- One above the largest; no count is below it where none will do.
 abbrev end : Pair → List ℕ → ℕ
-end p xs = fold min (suc (ceiling p 1)) (before p xs) (judged p xs)
+end p xs = fold min (suc (upperAt p 1)) (before p xs) (judged p xs)
 
 -- A count keeps to the figures where, with the ticks before it, it keeps to those of each window.
 keeps-windows : (p : Pair) (xs : List ℕ) (x : ℕ)
     → Keeps p (then xs x)
-    ↔ ((d : ℕ) → 1 ≤ d → d ≤ judged p xs → (least p d ≤ last xs (d - 1) + x) × (last xs (d - 1) + x ≤ ceiling p d))
+    ↔ ((d : ℕ) → 1 ≤ d → d ≤ judged p xs → (lowerAt p d ≤ last xs (d - 1) + x) × (last xs (d - 1) + x ≤ upperAt p d))
 keeps-windows p xs x = (
   (λ k d u v.
       omega (arith, sums d u v, k d (record { positive = u; within = omega arith; begun = omega (arith, length-then xs x) }))),
@@ -92,14 +92,14 @@ keeps-range p xs x h = (
   (λ k.
       let w = keeps-windows p xs x .0 k in (
         fold-both (λ a b. b ≤ a) max max-best 0 (from p xs) x (judged p xs) (omega arith) (λ d u v. omega (arith, w d u v)),
-        fold-both _≤_ min min-best (suc (ceiling p 1)) (before p xs) (suc x) (judged p xs)
+        fold-both _≤_ min min-best (suc (upperAt p 1)) (before p xs) (suc x) (judged p xs)
             (omega (arith, w 1 (omega arith) (omega arith))) (λ d u v. omega (arith, w d u v)),
       )),
   (λ r. keeps-windows p xs x .1 (λ d u v.
       omega (
         arith,
         fold-each (λ a b. b ≤ a) max max-best 0 (from p xs) (judged p xs) d u v,
-        fold-each _≤_ min min-best (suc (ceiling p 1)) (before p xs) (judged p xs) d u v,
+        fold-each _≤_ min min-best (suc (upperAt p 1)) (before p xs) (judged p xs) d u v,
       ))),
 )
 
@@ -156,20 +156,20 @@ module _ (p : Pair) (xs : List ℕ) where
 -- ---- on a closed pair
 module _ (p : Pair) (C : Closed p) (xs : List ℕ) (c : Conforms p xs) where
   -- A window of any length up to the horizon, none included.
-  within : (i d : ℕ) → d ≤ horizon p → i + d ≤ length xs → (least p d ≤ sum (countsOf xs) i d) × (sum (countsOf xs) i d ≤ ceiling p d)
+  within : (i d : ℕ) → d ≤ horizon p → i + d ≤ length xs → (lowerAt p d ≤ sum (countsOf xs) i d) × (sum (countsOf xs) i d ≤ upperAt p d)
   unfolding figure sum
   within i zero v w = omega arith
   within i (suc d) v w = let h : Inside p (suc d) (sum (countsOf xs) i (suc d)) = c i (suc d) (omega arith) v w in omega arith
 
   -- The last d = a + b ticks are a window of a ticks and the last b.
   last-split : (a b d : ℕ) → a + b ≡ d → d ≤ horizon p → d ≤ length xs
-      → (least p a + last xs b ≤ last xs d) × (last xs d ≤ ceiling p a + last xs b)
+      → (lowerAt p a + last xs b ≤ last xs d) × (last xs d ≤ upperAt p a + last xs b)
   last-split a b d e v h =
       let e′ : length xs - d + a ≡ length xs - b = omega arith in
       omega (arith, rw e′ at (split-at (countsOf xs) (length xs - d) a b d e), within (length xs - d) a (omega arith) (omega arith))
 
   -- By the window that one of the two lengths has more than the other, and the edge between them.
-  pairwise : (d e : ℕ) → 1 ≤ d → d ≤ judged p xs → 1 ≤ e → e ≤ judged p xs → least p d + last xs (e - 1) ≤ ceiling p e + last xs (d - 1)
+  pairwise : (d e : ℕ) → 1 ≤ d → d ≤ judged p xs → 1 ≤ e → e ≤ judged p xs → lowerAt p d + last xs (e - 1) ≤ upperAt p e + last xs (d - 1)
   pairwise d e u v u′ v′ =
       let m : ℕ = min d e - 1 in
       omega (
@@ -179,7 +179,7 @@ module _ (p : Pair) (C : Closed p) (xs : List ℕ) (c : Conforms p xs) where
         last-split (d - e) m (d - 1) (omega arith) (omega arith) (omega arith),
       )
 
-  room : (d : ℕ) → 1 ≤ d → d ≤ judged p xs → last xs (d - 1) ≤ ceiling p d
+  room : (d : ℕ) → 1 ≤ d → d ≤ judged p xs → last xs (d - 1) ≤ upperAt p d
   room d u v =
       let k : d - 1 + 1 ≡ d = omega arith in
       omega (
@@ -191,14 +191,14 @@ module _ (p : Pair) (C : Closed p) (xs : List ℕ) (c : Conforms p xs) where
 
   pub lo-end : 1 ≤ horizon p → suc (lo p xs) ≤ end p xs
   lo-end h =
-      fold-both _≤_ min min-best (suc (ceiling p 1)) (before p xs) (suc (lo p xs)) (judged p xs)
+      fold-both _≤_ min min-best (suc (upperAt p 1)) (before p xs) (suc (lo p xs)) (judged p xs)
       (omega (arith, under 1 (omega arith) (omega arith)))
       (λ e u v. omega (arith, under e u v, room e u v))
     where
       -- Each ceiling leaves the largest of the leasts its room.
-      under : (e : ℕ) → 1 ≤ e → e ≤ judged p xs → lo p xs ≤ ceiling p e - last xs (e - 1)
+      under : (e : ℕ) → 1 ≤ e → e ≤ judged p xs → lo p xs ≤ upperAt p e - last xs (e - 1)
       under e u v =
-          fold-both (λ a b. b ≤ a) max max-best 0 (from p xs) (ceiling p e - last xs (e - 1)) (judged p xs) (omega arith)
+          fold-both (λ a b. b ≤ a) max max-best 0 (from p xs) (upperAt p e - last xs (e - 1)) (judged p xs) (omega arith)
           (λ d u′ v′. omega (arith, pairwise d e u′ v′ u v, room e u v, room d u′ v′))
 
   pub goes-on : 1 ≤ horizon p → Range p xs

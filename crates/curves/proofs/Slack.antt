@@ -2,14 +2,14 @@
 use Rattle.laws.proofs.Base.{ℕ, _+_, _-_, _≤_, _<_, _≡_, ap, decLt, arith}
 use Rattle.laws.specs.Ranges.{fold}
 use Rattle.laws.proofs.Best.{sum-tight}
-use Rattle.curves.specs.Pairs.{horizon, Pair, ceiling, least, slack}
+use Rattle.curves.specs.Pairs.{horizon, Pair, upperAt, lowerAt, slack}
 use Rattle.curves.specs.Rounds.{cutOff, round, Crossed, Settled}
 use Rattle.curves.proofs.Figures.{round-horizon, same-by}
 use Rattle.curves.proofs.Tightened.{below, upper-falls, lower-rises}
 
 -- How far one ceiling stands above its least.
 abbrev room : Pair → ℕ → ℕ
-room c d = ceiling c d - least c d
+room c d = upperAt c d - lowerAt c d
 
 pub slack-falls : (c : Pair) → ¬ Crossed cutOff (round cutOff c) → ¬ Settled cutOff c → slack (round cutOff c) < slack c
 slack-falls c n s = elim (decLt (slack r) (slack c)) [ yes h ↦ h | no h ↦ absurd (s (same (omega (arith, horizons)))) ]

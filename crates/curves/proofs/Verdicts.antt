@@ -4,7 +4,7 @@ use Rattle.laws.proofs.Base.{ℕ, zero, suc, _+_, _-_, _≤_, _<_, min, _≡_, 
 use Rattle.laws.proofs.Base.{Dec·and, decLe, decLt, arith, length, drop, length-drop, getD-drop}
 use lib.Seq.{drop-drop, drop-append-le}
 use Rattle.curves.specs.Streams.{countsOf}
-use Rattle.curves.specs.Pairs.{Pair, horizon, ceiling, least}
+use Rattle.curves.specs.Pairs.{Pair, horizon, upperAt, lowerAt}
 use Rattle.curves.specs.Conformance.{TooMany, Inside}
 use Rattle.curves.specs.Ticks.{then, newest, last, Judged, Keeps, Shortest, Verdict, passed, tooMany, tooFew, Right, Range}
 use Rattle.curves.proofs.NextTick.{length-then}
@@ -13,7 +13,7 @@ use Rattle.curves.proofs.Sums.{alike}
 -- ---- there is one
 module _ (p : Pair) (xs : List ℕ) where
   unfoldable pub inside? : (d : ℕ) → Dec (Inside p d (last xs d))
-  inside? d = Dec·and (not? (decLt (ceiling p d) (last xs d))) (not? (decLt (last xs d) (least p d)))
+  inside? d = Dec·and (not? (decLt (upperAt p d) (last xs d))) (not? (decLt (last xs d) (lowerAt p d)))
     where
       not? : {A : Type 0} → Dec A → Dec (¬ A)
       not? (yes a) = no (λ f. f a)
@@ -58,10 +58,10 @@ module _ (p : Pair) (xs : List ℕ) where
 
   unfoldable pub turned-down : (d : ℕ) → Shortest p xs d → (v : Verdict) × Right p xs v
   turned-down d s =
-      elim (decLt (ceiling p d) (last xs d)) [
+      elim (decLt (upperAt p d) (last xs d)) [
         | yes h ↦ (tooMany d, (s, h))
         | no h ↦
-            (tooFew d, (s, h, elim (decLt (last xs d) (least p d)) [ yes l ↦ l | no l ↦ absurd (s .outside (h, l)) ]))
+            (tooFew d, (s, h, elim (decLt (last xs d) (lowerAt p d)) [ yes l ↦ l | no l ↦ absurd (s .outside (h, l)) ]))
       ]
 
   unfoldable pub verdict? : (v : Verdict) × Right p xs v

@@ -2,7 +2,7 @@
 -- gains anything. Assumes nothing.
 use Rattle.laws.proofs.Base.{ℕ, zero, suc, _+_, _-_, _^_, _≤_, _<_, min, _≡_, le-refl, add-zero, add-one, arith}
 use Rattle.curves.specs.Streams.{sum}
-use Rattle.curves.specs.Pairs.{horizon, Pair, ceiling, least}
+use Rattle.curves.specs.Pairs.{horizon, Pair, upperAt, lowerAt}
 use Rattle.curves.proofs.Sums.{split-at}
 use Rattle.curves.proofs.Tightened.{Tightened}
 use Rattle.curves.proofs.Edges.{rise, fall, no-rise, triangle}
@@ -16,7 +16,7 @@ pub record Levels (H k : ℕ) (c : ℕ → Pair) : Type 0 where
   pub horizons : (i : ℕ) → horizon (c i) ≡ H
   pub short : H ≤ 2 ^ k
   pub tight : (i : ℕ) → i < k → Tightened (c i) (c (suc i))
-  pub uncrossed : (d : ℕ) → d ≤ H → least (c k) d ≤ ceiling (c k) d
+  pub uncrossed : (d : ℕ) → d ≤ H → lowerAt (c k) d ≤ upperAt (c k) d
 
 module _ (H k : ℕ) (c : ℕ → Pair) (levels : Levels H k c) (at : ℕ → ℕ) (inside : (t : ℕ) → at t ≤ H) where
   -- One edge of the i-th pair costs no more than the n edges of the first that follow t others.

@@ -3,15 +3,15 @@ use Prim.Native.Nat.{ℕ, _+_, _≤_, _<_}
 use mathlib.Core.Path.{_≡_}
 use mathlib.Core.List.{List}
 use lib.ListN.{length}
-use Rattle.curves.specs.Pairs.{Pair, horizon, ceiling, least}
-use Rattle.curves.specs.Streams.{sum, countsOf}
+use Rattle.curves.specs.Pairs.{Pair, horizon, upperAt, lowerAt}
+use Rattle.curves.specs.Streams.{Stream, Begins, sum, countsOf}
 
 -- A window of d ticks with the sum x has too many, or too few. Nothing else compares a sum with a figure.
 abbrev pub TooMany : Pair → ℕ → ℕ → Type 0
-TooMany p d x = ceiling p d < x
+TooMany p d x = upperAt p d < x
 
 abbrev pub TooFew : Pair → ℕ → ℕ → Type 0
-TooFew p d x = x < least p d
+TooFew p d x = x < lowerAt p d
 
 -- The sum keeps both figures.
 abbrev pub Inside : Pair → ℕ → ℕ → Type 0
@@ -28,6 +28,10 @@ Conforms p xs = ConformsUpTo (length xs) p (countsOf xs)
 -- An unbounded stream conforms.
 abbrev pub Conforms∞ : Pair → (ℕ → ℕ) → Type 0
 Conforms∞ p s = (i d : ℕ) → 1 ≤ d → d ≤ horizon p → Inside p d (sum s i d)
+
+-- A finite stream is extendable: it begins an unbounded stream that conforms.
+abbrev pub Extendable : Pair → List ℕ → Type 0
+Extendable p xs = (s : Stream) × Begins xs (s .counts) × Conforms∞ p (s .counts)
 
 -- A figure x of d ticks is met: some window of d ticks has that sum.
 abbrev pub MetIn : (ℕ → ℕ) → ℕ → ℕ → Type 0

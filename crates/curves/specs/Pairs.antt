@@ -40,11 +40,11 @@ abbrev pub first : ℕ → Pair → Pair
 first h c = pairOf (take h (c .upper)) (take h (c .lower))
 
 -- The ceiling (most) and the least of a window of d ticks.
-abbrev pub ceiling : Pair → ℕ → ℕ
-ceiling p d = figure 0 (p .upper) d
+abbrev pub upperAt : Pair → ℕ → ℕ
+upperAt p d = figure 0 (p .upper) d
 
-abbrev pub least : Pair → ℕ → ℕ
-least p d = figure 0 (p .lower) d
+abbrev pub lowerAt : Pair → ℕ → ℕ
+lowerAt p d = figure 0 (p .lower) d
 
 -- Two pairs, and so two closures, are equal.
 abbrev pub Equal : Pair → Pair → Type 0
@@ -52,4 +52,4 @@ Equal p q = Same 0 p q
 
 -- How far the ceilings stand above the leasts, over all windows.
 abbrev pub slack : Pair → ℕ
-slack p = fold _+_ 0 (λ d. ceiling p d - least p d) (horizon p)
+slack p = fold _+_ 0 (λ d. upperAt p d - lowerAt p d) (horizon p)

@@ -5,7 +5,7 @@ use mathlib.Core.Bool.{cond}
 use lib.IntN.{ℤ, pos, _+ℤ_, _-ℤ_}
 use lib.Signed.{leZ, _<ℤ_}
 use Rattle.laws.specs.Ranges.{fold, table}
-use Rattle.curves.specs.Pairs.{Curves, horizon, figure, Same, Pair, ceiling, least}
+use Rattle.curves.specs.Pairs.{Curves, horizon, figure, Same, Pair, upperAt, lowerAt}
 
 pub record Arithmetic : Type 1 where
   pub Number : Type 0
@@ -45,12 +45,6 @@ cutOff =
     }
 
 module _ (A : Arithmetic) where
-  abbrev pub upperAt : Curves (A .Number) → ℕ → A .Number
-  upperAt c d = figure (A .of 0) (c .upper) d
-
-  abbrev pub lowerAt : Curves (A .Number) → ℕ → A .Number
-  lowerAt c d = figure (A .of 0) (c .lower) d
-
   -- The figure that a round gives one curve for a window of d ticks: the best of its old one; of those of two parts, a and d − a ticks,
   -- added; and of a longer window's, d + t ticks, less the other curve's for the t ticks more.
   unfoldable pub newFigure : (A .Number → A .Number → A .Number) → ℕ → (ℕ → A .Number) → (ℕ → A .Number) → ℕ → A .Number
@@ -60,10 +54,10 @@ module _ (A : Arithmetic) where
 
   -- The new ceilings, each the smallest, and the new leasts, each the largest.
   abbrev pub newUpper : Curves (A .Number) → ℕ → A .Number
-  newUpper c = newFigure (A .smaller) (horizon c) (upperAt c) (lowerAt c)
+  newUpper c = newFigure (A .smaller) (horizon c) (figure (A .of 0) (c .upper)) (figure (A .of 0) (c .lower))
 
   abbrev pub newLower : Curves (A .Number) → ℕ → A .Number
-  newLower c = newFigure (A .larger) (horizon c) (lowerAt c) (upperAt c)
+  newLower c = newFigure (A .larger) (horizon c) (figure (A .of 0) (c .lower)) (figure (A .of 0) (c .upper))
 
   -- A round: every figure anew, all from the old ones.
   unfoldable pub round : Curves (A .Number) → Curves (A .Number)
@@ -74,28 +68,28 @@ module _ (A : Arithmetic) where
     pub window : ℕ
     pub positive : 1 ≤ window
     pub within : window ≤ horizon c
-    pub above : A .Below (upperAt c window) (lowerAt c window)
+    pub above : A .Below (figure (A .of 0) (c .upper) window) (figure (A .of 0) (c .lower) window)
 
   -- A round leaves every figure as it is.
   abbrev pub Settled : Curves (A .Number) → Type 0
   Settled c = Same (A .of 0) (round c) c
 
   -- The figures of a pair.
-  unfoldable pub given : Pair → Curves (A .Number)
-  given p =
+  unfoldable pub figuresOf : Pair → Curves (A .Number)
+  figuresOf p =
       record {
-        upper = table (λ d. A .of (ceiling p d)) (horizon p);
-        lower = table (λ d. A .of (least p d)) (horizon p);
+        upper = table (λ d. A .of (upperAt p d)) (horizon p);
+        lower = table (λ d. A .of (lowerAt p d)) (horizon p);
       }
 
   -- The figures of a pair after n rounds, if so many are run.
   unfoldable pub after : ℕ → Pair → Curves (A .Number)
-  after zero p = given p
+  after zero p = figuresOf p
   after (suc n) p = round (after n p)
 
   -- q has the figures that p has after n rounds.
   abbrev pub HasAfter : ℕ → Pair → Pair → Type 0
-  HasAfter n p q = Same (A .of 0) (after n p) (given q)
+  HasAfter n p q = Same (A .of 0) (after n p) (figuresOf q)
 
   -- n rounds are run, and each changes a figure: before none of them has a least come above its ceiling, in the pair as given either.
   pub record Runs (p : Pair) (n : ℕ) : Type 0 where
@@ -116,5 +110,5 @@ module _ (A : Arithmetic) where
 
 -- A causal pair, one that is its own closure: no least is above its ceiling, and a round changes nothing.
 pub record Causal (p : Pair) : Type 0 where
-  pub uncrossed : ¬ Crossed whole (given whole p)
-  pub settled : Settled whole (given whole p)
+  pub uncrossed : ¬ Crossed whole (figuresOf whole p)
+  pub settled : Settled whole (figuresOf whole p)

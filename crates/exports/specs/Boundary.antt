@@ -20,20 +20,20 @@ pub record Returned : Type 0 where
 abbrev pub returned : ℕ → Pair → Returned
 returned r left = record { answer = r; results = left }
 
-abbrev pub closed : closure.Answer → Returned
-closed a = returned (inOne (a .number) (a .rounds)) (a .results)
+abbrev pub closingReturned : closure.ClosingAnswer → Returned
+closingReturned a = returned (inOne (a .number) (a .rounds)) (a .results)
 
-abbrev pub read : constraints.Answer → Returned
-read a = returned (inOne (a .number) (a .horizon)) (a .results)
+abbrev pub readingReturned : constraints.ReadingAnswer → Returned
+readingReturned a = returned (inOne (a .number) (a .horizon)) (a .results)
 
 -- ---- the report
-pub record Reported : Type 0 where
+pub record ReportReturned : Type 0 where
   pub length : ℕ
   pub output : List ℕ
 
-abbrev pub reported : ℕ → List ℕ → Reported
-reported r left = record { length = r; output = left }
+abbrev pub reportReturned : ℕ → List ℕ → ReportReturned
+reportReturned r left = record { length = r; output = left }
 
 -- As many bytes as there is room for; the rest of the list as found.
-abbrev pub reportInto : List ℕ → List ℕ → Reported
-reportInto o found = reported (length o) (over o found)
+abbrev pub reportInto : List ℕ → List ℕ → ReportReturned
+reportInto o found = reportReturned (length o) (over o found)

@@ -10,7 +10,7 @@ ghost use Rattle.closure.specs.Closing.{closing};
 ghost use Rattle.constraints.specs.Reading.{reading};
 ghost use Rattle.report.specs.Report as report;
 ghost use Rattle.scripts.specs.Scripts.{answered, judgedScript, sentScript};
-ghost use Rattle.exports.specs.Boundary.{returned, closed, read, reported, reportInto};
+ghost use Rattle.exports.specs.Boundary.{returned, closingReturned, readingReturned, reportReturned, reportInto};
 ghost use Rattle.exports.specs.Steps.{closingCode, readingCode};
 
 // A refusal's number stands in the upper 32 bits of an answer.
@@ -25,7 +25,7 @@ pub extern "C" fn calgedze_close(
     lower: &mut [u32],
 ) -> u64
     ensures { λ r. ⌜ returned r (pairOf (now (upper .exit)) (now (lower .exit)))
-        ≡ closed (closing (pairOf (now (ceilings .entry)) (now (leasts .entry))) (pairOf (now (upper .entry)) (now (lower .entry)))) ⌝ }
+        ≡ closingReturned (closing (pairOf (now (ceilings .entry)) (now (leasts .entry))) (pairOf (now (upper .entry)) (now (lower .entry)))) ⌝ }
 {
     closing_answer(closure::close(ceilings, leasts, upper, lower))
 }
@@ -48,7 +48,7 @@ fn closing_answer(closing: Closing) -> u64
 #[no_mangle]
 pub extern "C" fn calgedze_read(text: &[u8], upper: &mut [u32], lower: &mut [u32]) -> u64
     ensures { λ r. ⌜ returned r (pairOf (now (upper .exit)) (now (lower .exit)))
-        ≡ read (reading (now (text .entry)) (pairOf (now (upper .entry)) (now (lower .entry)))) ⌝ }
+        ≡ readingReturned (reading (now (text .entry)) (pairOf (now (upper .entry)) (now (lower .entry)))) ⌝ }
 {
     reading_answer(constraints::read(text, upper, lower))
 }
@@ -71,7 +71,7 @@ fn reading_answer(reading: Reading) -> u64
 // `report::report`, as much of it as there is room for, and how long all of it is.
 #[no_mangle]
 pub extern "C" fn calgedze_report(text: &[u8], output: &mut [u8]) -> usize
-    ensures { λ r. ⌜ reported r (now (output .exit)) ≡ reportInto (report.output (now (text .entry))) (now (output .entry)) ⌝ }
+    ensures { λ r. ⌜ reportReturned r (now (output .exit)) ≡ reportInto (report.output (now (text .entry))) (now (output .entry)) ⌝ }
 {
     let report = report::report(text);
     let n = report.length;

@@ -7,7 +7,7 @@ use Rattle.curves.specs.Pairs.{Pair, pairOf, figure}
 use Rattle.curves.specs.Questions.{ask, result}
 use Rattle.curves.proofs.NextTick.{range-from, range?}
 use Rattle.history.specs.States.{View, legal?}
-use Rattle.generator.specs.Generating.{looking}
+use Rattle.generator.specs.Generating.{ranging}
 use Rattle.generator.specs.Calls.{sendings}
 
 abbrev pair : Pair
@@ -19,5 +19,5 @@ some = record { pair = pair; held = 2 ∷ 1 ∷ [] }
 
 -- From lo 0 to hi 2 the choice 5 sends 2, its remainder by 3; then there is only 0 to send.
 five-by-three : sendings some (5 ∷ 5 ∷ []) ≡ result 2 ∷ result 0 ∷ []
-unfolding sendings looking ask legal? ⊎-map every every? Dec·and decLe decLt figure range? range-from fold sum
+unfolding sendings ranging ask legal? ⊎-map every every? Dec·and decLe decLt figure range? range-from fold sum
 five-by-three = refl

@@ -16,10 +16,10 @@ use Rattle.generator.specs.declared.Admissible.the-variants as admissibl
 use Rattle.generator.specs.declared.Sending.{Sending}
 use Rattle.generator.specs.declared.Sending.the-variants as sends
 use Rattle.generator.specs.declared.Limits.{Limits}
-use Rattle.generator.specs.Generating.{chosen, looking, sending}
+use Rattle.generator.specs.Generating.{chosen, ranging, sending}
 use Rattle.generator.specs.Answers.{rangeReply, sendingReply}
 use Rattle.generator.specs.Steps.{Limited, Small, Shows, ChoosesWhere, AddsSent}
-use Rattle.generator.proofs.Said.{bounds, looking-none, looking-range, looking-from, count-limited, chosen-within, sent-from}
+use Rattle.generator.proofs.Said.{ends, ranging-none, ranging-range, ranging-from, count-limited, chosen-within, sent-from}
 
 module _ (us ls xs : List ℕ) where
   abbrev p : Pair
@@ -104,11 +104,11 @@ module _ (us ls xs : List ℕ) where
 
 -- ---- the count that a choice leads to
 -- The definition divides by the same number, written as a successor.
-pub chosen-is : (lo hi choice : ℕ) → lo + choice % (hi - lo + 1) ≡ chosen (bounds lo hi) choice
+pub chosen-is : (lo hi choice : ℕ) → lo + choice % (hi - lo + 1) ≡ chosen (ends lo hi) choice
 chosen-is lo hi choice = ap (λ k. lo + choice % k) (add-one (hi - lo))
 
 pub chosen-below : (lo hi choice : ℕ) → lo ≤ hi → lo + choice % (hi - lo + 1) ≤ hi
-chosen-below lo hi choice h = omega (arith, chosen-is lo hi choice, chosen-within (bounds lo hi) choice h .1)
+chosen-below lo hi choice h = omega (arith, chosen-is lo hi choice, chosen-within (ends lo hi) choice h .1)
 
 -- ---- what a look answers
 module _ (v : View) (L : Legal v) (l : Limits) (b : Limited v l) where
@@ -119,18 +119,18 @@ module _ (v : View) (L : Legal v) (l : Limits) (b : Limited v l) where
       omega arith
 
   -- What is shown of the limits is what a look answers.
-  pub shown-looks : (a : Admissible) → Shows l a → rangeReply a ≡ looking v
+  pub shown-range : (a : Admissible) → Shows l a → rangeReply a ≡ ranging v
   unfolding range-from
-  shown-looks (admissible.Range lo hi) (some, is-lo, is-hi) =
-      (λ i. result (bounds (is-lo i) (is-hi i)))
-      ∙ sym (looking-range v L (range-from (v .pair) (v .held) (l .lo) (l .end) b some))
-  shown-looks admissible.BadState s = absurd s
-  shown-looks admissible.NoCount none = sym (looking-none v L (no-range (v .pair) (v .held) (l .lo) (l .end) b none))
+  shown-range (admissible.Range lo hi) (some, is-lo, is-hi) =
+      (λ i. result (ends (is-lo i) (is-hi i)))
+      ∙ sym (ranging-range v L (range-from (v .pair) (v .held) (l .lo) (l .end) b some))
+  shown-range admissible.BadState s = absurd s
+  shown-range admissible.NoCount none = sym (ranging-none v L (no-range (v .pair) (v .held) (l .lo) (l .end) b none))
 
 -- A range that a look shows has a count, and none above the limit.
-pub chooses-where : (v : View) (a : Admissible) → rangeReply a ≡ looking v → ChoosesWhere a
+pub chooses-where : (v : View) (a : Admissible) → rangeReply a ≡ ranging v → ChoosesWhere a
 chooses-where v (admissible.Range lo hi) e =
-    let (l, shown) = looking-from v (bounds lo hi) (sym e) in
+    let (l, shown) = ranging-from v (ends lo hi) (sym e) in
     let (r, is) = shown in
     let a : r .lo ≡ lo = ap (λ b. b .lo) is in
     let c : r .hi ≡ hi = ap (λ b. b .hi) is in
@@ -141,6 +141,6 @@ chooses-where v admissible.NoCount e = tt
 -- A count is sent only where the state has its form.
 pub adds-sent : (v : View) (choice : ℕ) (s : Sending) → sendingReply s ≡ sending v choice → AddsSent s v
 adds-sent v choice (sends.Sent x) e =
-    let (b, shown, is) = sent-from v choice x (sym e) in looking-from v b shown .0
+    let (b, shown, is) = sent-from v choice x (sym e) in ranging-from v b shown .0
 adds-sent v choice sends.BadState e = tt
 adds-sent v choice sends.NoCount e = tt

@@ -8,7 +8,7 @@ use Rattle.generator.specs.declared.Admissible.{Admissible}
 use Rattle.generator.specs.declared.Sent.{Sent}
 use Rattle.generator.specs.Generating.{sending}
 use Rattle.generator.specs.Answers.{sendingReply}
-use Rattle.generator.specs.Promises.{GeneratorTicked, GeneratorLooked}
+use Rattle.generator.specs.Promises.{GeneratorTicked, GeneratorRanged}
 
 -- ---- by the view of a state
 abbrev pub viewAfter : Reply ℕ → View → View
@@ -29,24 +29,24 @@ sendings v (choice ∷ choices) = sending v choice ∷ sendings (viewAfter (send
 -- A call: a tick with its choice, or a look; and what came back.
 pub data Call : Type 0 where
   ticked : ℕ → Sent → Call
-  looked : Admissible → Call
+  ranged : Admissible → Call
 
 -- A look leaves the state as it was.
 abbrev pub Calls : Generator → List Call → Type 0
 Calls g [] = Unit {0}
 Calls g (ticked choice r ∷ cs) = GeneratorTicked g choice r × Calls (r .next) cs
-Calls g (looked r ∷ cs) = GeneratorLooked g r × Calls g cs
+Calls g (ranged r ∷ cs) = GeneratorRanged g r × Calls g cs
 
 -- The choices of the ticks, and what these were answered, in order.
 abbrev pub choicesOf : List Call → List ℕ
 choicesOf [] = []
 choicesOf (ticked choice r ∷ cs) = choice ∷ choicesOf cs
-choicesOf (looked r ∷ cs) = choicesOf cs
+choicesOf (ranged r ∷ cs) = choicesOf cs
 
 abbrev pub repliesOf : List Call → List (Reply ℕ)
 repliesOf [] = []
 repliesOf (ticked choice r ∷ cs) = sendingReply (r .sending) ∷ repliesOf cs
-repliesOf (looked r ∷ cs) = repliesOf cs
+repliesOf (ranged r ∷ cs) = repliesOf cs
 
 -- The counts sent, in order.
 abbrev pub countOf : Reply ℕ → List ℕ
@@ -56,4 +56,4 @@ countOf (refusal n) = []
 abbrev pub countsSent : List Call → List ℕ
 countsSent [] = []
 countsSent (ticked choice r ∷ cs) = countOf (sendingReply (r .sending)) ++ countsSent cs
-countsSent (looked r ∷ cs) = countsSent cs
+countsSent (ranged r ∷ cs) = countsSent cs

@@ -1,4 +1,4 @@
--- A tick of the generator, and a look at its admissible range (document 01, "Monitor and maker").
+-- A tick of the generator, document 01's maker, and its admissible range, which document 01's look shows ("Monitor and maker").
 use Prim.Native.Nat.{ℕ, suc, _+_, _-_, _%_}
 use mathlib.Core.Path.{_≡_}
 use mathlib.Core.List.{List, [], _∷_}
@@ -12,27 +12,32 @@ use Rattle.generator.specs.declared.Generator.{Generator}
 abbrev pub question13 : View → Question
 question13 v = record { number = 13; asked = Range (v .pair) (v .held); answered = range? (v .pair) (v .held) }
 
-abbrev pub lookQuestions : View → List Question
-lookQuestions v = question12 v ∷ question13 v ∷ []
+abbrev pub rangeQuestions : View → List Question
+rangeQuestions v = question12 v ∷ question13 v ∷ []
 
 -- The smallest and the largest count that can be sent.
-pub record Bounds : Type 0 where
+pub record Ends : Type 0 where
   pub lo : ℕ
   pub hi : ℕ
 
-unfoldable pub looking : View → Reply Bounds
-looking v = replyTo (lookQuestions v) (λ yeses. let r : Range (v .pair) (v .held) = yeses .1 .0 in record { lo = r .lo; hi = r .hi })
+-- What asking for the range answers.
+unfoldable pub ranging : View → Reply Ends
+ranging v = replyTo (rangeQuestions v) (λ yeses. let r : Range (v .pair) (v .held) = yeses .1 .0 in record { lo = r .lo; hi = r .hi })
 
 -- The count that a choice leads to: lo and the remainder of the choice by hi − lo + 1.
-abbrev pub chosen : Bounds → ℕ → ℕ
+abbrev pub chosen : Ends → ℕ → ℕ
 chosen b choice = b .lo + choice % suc (b .hi - b .lo)
 
-abbrev pub sentFrom : Reply Bounds → ℕ → Reply ℕ
+abbrev pub sentFrom : Reply Ends → ℕ → Reply ℕ
 sentFrom (result b) choice = result (chosen b choice)
 sentFrom (refusal n) choice = refusal n
 
 abbrev pub sending : View → ℕ → Reply ℕ
-sending v choice = sentFrom (looking v) choice
+sending v choice = sentFrom (ranging v) choice
+
+-- Two states are equal: their horizon, the figures up to it and the held ticks in order are.
+abbrev pub EqualGenerators : Generator → Generator → Type 0
+EqualGenerators g g′ = viewOf (g .history) ≡ viewOf (g′ .history)
 
 -- The next state. A count that is sent is added, and what lies outside the next state's view is free; a refusal leaves the very state.
 abbrev pub GeneratorNext : Reply ℕ → Generator → Generator → Type 0

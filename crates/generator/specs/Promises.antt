@@ -6,13 +6,13 @@ use Rattle.history.specs.States.{viewOf}
 use Rattle.history.specs.Opening.{opening, Begun}
 use Rattle.history.specs.Answers.{openingReply}
 use Rattle.generator.specs.declared.Generator.{Generator}
-use Rattle.generator.specs.declared.Opened.{Opened}
+use Rattle.generator.specs.declared.OpenedGenerator.{OpenedGenerator}
 use Rattle.generator.specs.declared.Admissible.{Admissible}
 use Rattle.generator.specs.declared.Sent.{Sent}
-use Rattle.generator.specs.Generating.{looking, sending, GeneratorNext}
+use Rattle.generator.specs.Generating.{ranging, sending, GeneratorNext}
 use Rattle.generator.specs.Answers.{rangeReply, sendingReply}
 
-pub record GeneratorOpened (p : Pair) (r : Opened) : Type 0 where
+pub record GeneratorOpened (p : Pair) (r : OpenedGenerator) : Type 0 where
   pub answer : openingReply (r .opening) ≡ opening p
   pub history : Begun (opening p) p (r .state .history)
 
@@ -20,6 +20,6 @@ pub record GeneratorTicked (g : Generator) (choice : ℕ) (r : Sent) : Type 0 wh
   pub answer : sendingReply (r .sending) ≡ sending (viewOf (g .history)) choice
   pub next : GeneratorNext (sending (viewOf (g .history)) choice) g (r .next)
 
--- A look has no state to hand back: the caller keeps the one given.
-abbrev pub GeneratorLooked : Generator → Admissible → Type 0
-GeneratorLooked g r = rangeReply r ≡ looking (viewOf (g .history))
+-- The range has no state to hand back: the caller keeps the one given.
+abbrev pub GeneratorRanged : Generator → Admissible → Type 0
+GeneratorRanged g r = rangeReply r ≡ ranging (viewOf (g .history))

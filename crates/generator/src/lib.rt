@@ -1,27 +1,27 @@
-// The generator: sends, tick after tick, a count that keeps every window that ends there.
+// The generator (document 01's maker): sends, tick after tick, a count that keeps every window that ends there.
 
 use history::History;
 use history::Opening;
 ghost use mathlib.Core.Path.{_≡_};
 ghost use Prim.Native.Nat.{min, max, _-_};
 ghost use Rattle.curves.specs.Pairs.{pairOf};
-ghost use Rattle.history.specs.States.{viewOf, Legal};
+ghost use Rattle.history.specs.States.{viewOf, added, Legal};
 ghost use Rattle.history.specs.Steps.{Slices, viewWith};
 ghost use Rattle.generator.specs.Generating.{sentFrom, GeneratorNext};
 ghost use Rattle.generator.specs.Answers.{rangeReply, sendingReply};
-ghost use Rattle.generator.specs.Promises.{GeneratorOpened, GeneratorTicked, GeneratorLooked};
+ghost use Rattle.generator.specs.Promises.{GeneratorOpened, GeneratorTicked, GeneratorRanged};
 ghost use Rattle.generator.specs.Steps.{Limited, Small, Shows, ChoosesWhere, AddsSent};
 
 pub struct Generator {
     pub history: History,
 }
 
-pub struct Opened {
+pub struct OpenedGenerator {
     pub opening: Opening,
     pub state: Generator,
 }
 
-// What a look at the range shows.
+// What the range (document 01's look at lo and hi) shows.
 pub enum Admissible {
     // The smallest and the largest count that can be sent.
     Range { lo: u32, hi: u32 },
@@ -50,14 +50,14 @@ struct Limits {
 }
 
 impl Generator {
-    // A generator on the pair of `ceilings` and `leasts`, entry 0 for the window of one tick.
-    pub fn open(ceilings: &[u32], leasts: &[u32]) -> Opened
-        ensures { λ r. ⌜ GeneratorOpened (pairOf (now (ceilings .entry)) (now (leasts .entry))) r ⌝ }
+    // A generator on the pair of `upper` and `lower`, entry 0 for the window of one tick.
+    pub fn open(upper: &[u32], lower: &[u32]) -> OpenedGenerator
+        ensures { λ r. ⌜ GeneratorOpened (pairOf (now (upper .entry)) (now (lower .entry))) r ⌝ }
     {
-        let start = History::open(ceilings, leasts);
+        let start = History::open(upper, lower);
         let opening = start.opening;
         let history = start.history;
-        Opened {
+        OpenedGenerator {
             opening,
             state: Generator { history },
         }
@@ -73,19 +73,19 @@ impl Generator {
         Sent { sending, next }
     }
 
-    // Shows the range of counts that the next tick can send.
+    // Shows the admissible range: the smallest and the largest count that the next tick can send.
     pub fn range(self) -> Admissible
-        ensures { λ r. ⌜ GeneratorLooked self r ⌝ }
+        ensures { λ r. ⌜ GeneratorRanged self r ⌝ }
     {
         if !self.history.is_legal() {
             return Admissible::BadState;
         }
-        show(find_limits(self.history))
+        range_of(find_limits(self.history))
     }
 }
 
 // The counts of the next tick, from their limits.
-fn show(limits: Limits) -> Admissible
+fn range_of(limits: Limits) -> Admissible
     requires { ⌜ Small limits ⌝ }
     ensures { λ r. ⌜ Shows limits r ⌝ }
 {
@@ -122,11 +122,31 @@ fn advance(generator: Generator, sending: Sending) -> Generator
 {
     match sending {
         Sending::Sent { count } => {
-            let history = generator.history.push(count);
+            let history = with_tick(generator.history, count);
             Generator { history }
         }
         Sending::BadState => generator,
         Sending::NoCount => generator,
+    }
+}
+
+// The history with one tick more. Of the ticks at most one fewer than the horizon is held.
+fn with_tick(history: History, count: u32) -> History
+    requires { ⌜ Legal (viewOf history) ⌝ }
+    ensures { λ r. ⌜ viewOf r ≡ added (viewOf history) count ⌝ }
+{
+    let horizon = history.horizon;
+    let upper = history.upper;
+    let lower = history.lower;
+    let mut ticks = history.ticks;
+    let room = horizon - 1;
+    let held = lists::push(&mut ticks[..room], history.held, count);
+    History {
+        horizon,
+        upper,
+        lower,
+        held,
+        ticks,
     }
 }
 

@@ -14,13 +14,13 @@ use Rattle.curves.proofs.NextTick.{conforms-start, conforms-keeps, keeps-confor
 use Rattle.curves.proofs.Verdicts.{keeps-newest}
 use Rattle.history.specs.States.{View, Legal}
 use Rattle.history.specs.Opening.{opening, fresh}
-use Rattle.generator.specs.Generating.{looking, sending}
-use Rattle.generator.specs.Calls.{viewAfter, sendings, ticked, looked}
-use Rattle.generator.proofs.Said.{bounds, looking-range, looking-none, looking-from, count-limited, chosen-within, sent-from}
+use Rattle.generator.specs.Generating.{ranging, sending}
+use Rattle.generator.specs.Calls.{viewAfter, sendings, ticked, ranged}
+use Rattle.generator.proofs.Said.{ends, ranging-range, ranging-none, ranging-from, count-limited, chosen-within, sent-from}
 use Rattle.generator.proofs.Said.{generator-next}
-use Rattle.guarantees.specs.Exact.{Passes, Extremes, SendsIffPasses, NoCountIffNonePasses, LookShowsExtremes, SendsConforming}
-use Rattle.guarantees.specs.Exact.{EqualGeneratorsAgree, EqualGeneratorsShow, CallsAreSendings}
-use Rattle.guarantees.proofs.Total.{looking-refused, sending-refused}
+use Rattle.guarantees.specs.Exact.{Passes, SmallestAndLargest, SendsIffPasses, NoCountIffNonePasses, RangeShowsExtremes, SendsConforming}
+use Rattle.guarantees.specs.Exact.{EqualGeneratorsAgree, EqualGeneratorsRange, CallsAreSendings}
+use Rattle.guarantees.proofs.Total.{ranging-refused, sending-refused}
 use Rattle.guarantees.proofs.Held.{heldOf, held-fresh, held-added, held-legal, opened-positive}
 use Rattle.guarantees.proofs.Monitoring.{answers-right}
 
@@ -35,14 +35,14 @@ module _ (v : View) (l : Legal v) where
       let r = keeps-has-range (v .pair) (v .held) (l .lengths .0) x k in
       let (a, b) = range-whole (v .pair) (v .held) r x .0 k in
       let m = mod-eq-of-lt {n = x - r .lo} {m = suc (r .hi - r .lo)} (omega arith) in
-      (x - r .lo, omega (arith, count-limited v l x k), rw (looking-range v l r) (ap result (omega arith)))
+      (x - r .lo, omega (arith, count-limited v l x k), rw (ranging-range v l r) (ap result (omega arith)))
 
   sent-keeps : (choice x : ℕ) → sending v choice ≡ result x → Keeps (v .pair) (then (v .held) x)
   sent-keeps choice x e =
       let (b, s, c) = sent-from v choice x e in
-      let (l′, (r, f)) = looking-from v b s in
+      let (l′, (r, f)) = ranging-from v b s in
       rw (← c, ← f)
-      (range-whole (v .pair) (v .held) r _ .1 (chosen-within (bounds (r .lo) (r .hi)) choice (r .largest (r .lo) (r .lo-keeps))))
+      (range-whole (v .pair) (v .held) r _ .1 (chosen-within (ends (r .lo) (r .hi)) choice (r .largest (r .lo) (r .lo-keeps))))
 
 pub sends-iff-passes : SendsIffPasses
 sends-iff-passes v l x = (
@@ -52,22 +52,22 @@ sends-iff-passes v l x = (
 
 pub no-count-iff-none-passes : NoCountIffNonePasses
 no-count-iff-none-passes v l =
-    (none, λ choice. Iff·trans (sending-refused v choice 13) (Iff·trans (Iff·symm (looking-refused v 13)) none))
+    (none, λ choice. Iff·trans (sending-refused v choice 13) (Iff·trans (Iff·symm (ranging-refused v 13)) none))
   where
-    none : (looking v ≡ refusal 13) ↔ ((x : ℕ) → ¬ Passes v x)
+    none : (ranging v ≡ refusal 13) ↔ ((x : ℕ) → ¬ Passes v x)
     none = (
       λ e x q.
           let r = keeps-has-range (v .pair) (v .held) (l .lengths .0) x (passes-iff v l x .0 q) in
-          no-refusal _ 13 (sym (looking-range v l r) ∙ e),
-      λ n. looking-none v l (λ r. n (r .lo) (passes-iff v l (r .lo) .1 (r .lo-keeps))),
+          no-refusal _ 13 (sym (ranging-range v l r) ∙ e),
+      λ n. ranging-none v l (λ r. n (r .lo) (passes-iff v l (r .lo) .1 (r .lo-keeps))),
     )
 
-pub look-shows-extremes : LookShowsExtremes
-look-shows-extremes v l b = (there, back)
+pub range-shows-extremes : RangeShowsExtremes
+range-shows-extremes v l b = (there, back)
   where
-    there : looking v ≡ result b → Extremes v b
+    there : ranging v ≡ result b → SmallestAndLargest v b
     there e =
-        let (l′, (r, f)) = looking-from v b e in
+        let (l′, (r, f)) = ranging-from v b e in
         rw (← f)
         (record {
           lo-passes = passes-iff v l (r .lo) .1 (r .lo-keeps);
@@ -76,9 +76,9 @@ look-shows-extremes v l b = (there, back)
           largest = λ x q. r .largest x (passes-iff v l x .0 q);
         })
 
-    back : Extremes v b → looking v ≡ result b
+    back : SmallestAndLargest v b → ranging v ≡ result b
     back e =
-        looking-range v l
+        ranging-range v l
         (record {
           lo = b .lo;
           hi = b .hi;
@@ -136,11 +136,11 @@ sends-conforming p o xs = (
 pub equal-generators-agree : EqualGeneratorsAgree
 equal-generators-agree g g′ choice r r′ e t t′ = (cc, cc (generator-next g choice r t, generator-next g′ choice r′ t′))
 
-pub equal-generators-show : EqualGeneratorsShow
-equal-generators-show g g′ a a′ e l l′ = cc
+pub equal-generators-range : EqualGeneratorsRange
+equal-generators-range g g′ a a′ e l l′ = cc
 
 pub calls-are-sendings : CallsAreSendings
 unfolding sendings
 calls-are-sendings g [] t = refl
 calls-are-sendings g (ticked choice r ∷ cs) (a, t) = cc (calls-are-sendings (r .next) cs t, generator-next g choice r a)
-calls-are-sendings g (looked r ∷ cs) (a, t) = calls-are-sendings g cs t
+calls-are-sendings g (ranged r ∷ cs) (a, t) = calls-are-sendings g cs t

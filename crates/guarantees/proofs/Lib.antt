@@ -3,7 +3,7 @@ pub mod Total
 pub mod Held
 pub mod Monitoring
 pub mod Generating
-pub mod NeverStuck
+pub mod NeverRefused
 pub mod Cost
 pub mod Marked
 pub mod ReadBack

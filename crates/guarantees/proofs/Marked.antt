@@ -12,7 +12,7 @@ use Rattle.curves.specs.Pairs.{Pair, horizon, figure, Equal}
 use Rattle.curves.specs.Ticks.{passed}
 use Rattle.curves.specs.Streams.{sum}
 use Rattle.curves.specs.Questions.{Question, ask, result, refusal}
-use Rattle.curves.specs.Rounds.{newFigure, round, given, after}
+use Rattle.curves.specs.Rounds.{newFigure, round, figuresOf, after}
 use Rattle.curves.proofs.Asked.{said-yes, yes-append, yes-parts}
 use Rattle.curves.proofs.Arrival.{never-both, crossed?, equal?}
 use Rattle.curves.proofs.Computed.{left?, left, same?, runs?, arrives?, arrives-computed, crosses?, crosses-by?, crosses-by}
@@ -31,10 +31,10 @@ use Rattle.bounds.specs.Bounds.{pairQuestions}
 use Rattle.history.specs.Opening.{opening, fresh}
 use Rattle.monitor.specs.Monitoring.{judged, judging}
 use Rattle.monitor.specs.Calls.{rulings}
-use Rattle.generator.specs.Generating.{looking}
+use Rattle.generator.specs.Generating.{ranging}
 use Rattle.generator.specs.Calls.{addedAll}
 use Rattle.guarantees.specs.Exact.{unfailed}
-use Rattle.guarantees.specs.Marked.{publishedTriples, Case, reads, closes, refuses, goesOn, Holds, marked, MarkedFigures}
+use Rattle.guarantees.specs.Marked.{publishedTriples, Case, reads, closes, refuses, goesOn, CaseHolds, markedCases, MarkedFigures}
 use Rattle.guarantees.proofs.Monitoring.{conforms-iff-all-pass}
 
 -- Questions 1, 2 and 4, which the result lists have no part in.
@@ -61,13 +61,13 @@ Computed (refuses p) = T (opens? p) × T (crosses-by? p 4)
 Computed (goesOn p xs a) =
     T (opens? p)
     × (rulings (unfailed (fresh p)) xs ≡ map (λ _. result (judged passed)) xs)
-    × (looking (addedAll (fresh p) xs) ≡ a)
+    × (ranging (addedAll (fresh p) xs) ≡ a)
 
 all-passed : (xs : List ℕ) → Each (λ r. r ≡ result (judged passed)) (map (λ _. result (judged passed)) xs)
 all-passed [] = tt
 all-passed (x ∷ xs) = (refl, all-passed xs)
 
-holds : (c : Case) → Computed c → Holds c
+holds : (c : Case) → Computed c → CaseHolds c
 holds (reads t q) (asked, same) =
     λ found u l.
     let ys = left (ask (textQuestions t)) asked in
@@ -82,15 +82,15 @@ holds (refuses p) (ok, x) =
     λ found u l.
     let (k, crosses) = crosses-by p 4 x in
     refused-is p found 5 (fifth p found (opens p found ok u l) (λ a. never-both p (a .1) (a .0) k (a .2) crosses))
-holds (goesOn p xs a) (ok, pass, look) =
-    (opened p ok, conforms-iff-all-pass p (opened p ok) xs .1 (rw pass (all-passed xs)), look, λ choice. rw look)
+holds (goesOn p xs a) (ok, pass, shown) =
+    (opened p ok, conforms-iff-all-pass p (opened p ok) xs .1 (rw pass (all-passed xs)), shown, λ choice. rw shown)
 
 pub marked-figures : MarkedFigures
-unfolding marked publishedTriples opens? ask ⊎-map every every? decLe ℕ-discrete Dec·and left? crossed? equal? same? runs? arrives?
+unfolding markedCases publishedTriples opens? ask ⊎-map every every? decLe ℕ-discrete Dec·and left? crossed? equal? same? runs? arrives?
     crosses? crosses-by? records fields valueAfter named each? digit? numeral? wellFormed? inRange? Dec·not equal-lists? fold table
-    figure newFigure round given after rulings addedAll judging looking legal? verdict? find turned-down inside? judged? range?
+    figure newFigure round figuresOf after rulings addedAll judging ranging legal? verdict? find turned-down inside? judged? range?
     range-from decLt sum
 marked-figures =
     let c : T true × T true = (tt, tt) in
-    each-map Computed Holds marked holds
+    each-map Computed CaseHolds markedCases holds
     (c, (c, (c, (c, (c, (c, (c, (c, (c, ((tt, refl, refl), ((tt, refl, refl), ((tt, refl, refl), tt))))))))))))

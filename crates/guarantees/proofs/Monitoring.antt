@@ -13,7 +13,7 @@ use Rattle.history.specs.Opening.{opening, fresh}
 use Rattle.monitor.specs.Monitoring.{MonitorView, monitorView, Ruling, judged, alreadyFailed, judging}
 use Rattle.monitor.specs.Calls.{afterTick, afterTicks, rulings}
 use Rattle.monitor.proofs.Said.{judging-failed, ruling-is, ruling-right, monitor-next}
-use Rattle.guarantees.specs.Exact.{unfailed, Passes, TurnsDownIffOutside, AnswersRight, ConformsIffAllPass, RightOfWholeStream}
+use Rattle.guarantees.specs.Exact.{unfailed, Passes, RejectsIffOutside, AnswersRight, ConformsIffAllPass, RightOfWholeStream}
 use Rattle.guarantees.specs.Exact.{NothingPassesAfter, TicksAreRulings, EqualMonitorsAgree}
 use Rattle.guarantees.proofs.Held.{heldOf, held-fresh, held-added, held-legal, opened-positive}
 
@@ -21,8 +21,8 @@ use Rattle.guarantees.proofs.Held.{heldOf, held-fresh, held-added, held
 pub answers-right : AnswersRight
 answers-right v x l w = (ruling-right v x l w, ruling-is v x l w)
 
-pub turns-down-iff-outside : TurnsDownIffOutside
-turns-down-iff-outside v x l =
+pub rejects-iff-outside : RejectsIffOutside
+rejects-iff-outside v x l =
     (λ n. go n (verdict? (v .pair) ys .0) (verdict? (v .pair) ys .1), λ o f. o .2 (answers-right v x l passed .0 f (o .0) (o .1)))
   where
     ys : List ℕ

@@ -5,7 +5,7 @@ use Rattle.laws.specs.Ranges.{fold, table}
 use Rattle.laws.specs.Tests.{Each}
 use Rattle.laws.proofs.Tests.{each-map, each-append}
 use Rattle.laws.proofs.Table.{length-table, map-table, each-table, each-entry, table-ext, table-self}
-use Rattle.curves.specs.Pairs.{Pair, horizon, figure, ceiling, least}
+use Rattle.curves.specs.Pairs.{Pair, horizon, figure, upperAt, lowerAt}
 use Rattle.curves.specs.Questions.{AllYes}
 use Rattle.curves.proofs.Asked.{yes-append}
 use Rattle.bounds.specs.Bounds.{pairQuestions}
@@ -15,7 +15,7 @@ use Rattle.csv.proofs.Joining.{records-join, fields-join, fields-last}
 use Rattle.csv.proofs.Numbers.{value-decimal, decimal-digits, numeral-decimal}
 use Rattle.csv.specs.Records.{Constraint, WellFormed, triple, constraintOf, messageLimit}
 use Rattle.constraints.specs.Constraints.{named, smallestMost, filled}
-use Rattle.constraints.specs.Reading.{later, constraints, horizonOf, textPair, recordQuestions, question10, question11, questions}
+use Rattle.constraints.specs.Reading.{later, constraints, horizonOf, textPair, recordQuestions, question10, question11, readingQuestions}
 use Rattle.constraints.proofs.Named.{named-own, one-more, window-largest, largest-le}
 use Rattle.constraints.proofs.Said.{pair-iff-all-yes, given-is-text-pair}
 use Rattle.rendering.proofs.Said.{written-is, written-iff-all-yes, text-fits}
@@ -60,14 +60,14 @@ row-no-cr w l m =
 -- ---- the text
 module _ (p : Pair) where
   abbrev rowOf : ℕ → Bytes
-  rowOf d = row d (least p d) (ceiling p d)
+  rowOf d = row d (lowerAt p d) (upperAt p d)
 
   abbrev tripleOf : ℕ → Constraint
-  tripleOf d = triple d (least p d) (ceiling p d)
+  tripleOf d = triple d (lowerAt p d) (upperAt p d)
 
   -- The records of the text so far, whatever follows.
   text-records : (n : ℕ) (s : Bytes)
-      → records (fold _++_ (header ++ crlf) (λ d. line d (least p d) (ceiling p d)) n ++ s) ≡ header ∷ (table rowOf n ++ records s)
+      → records (fold _++_ (header ++ crlf) (λ d. line d (lowerAt p d) (upperAt p d)) n ++ s) ≡ header ∷ (table rowOf n ++ records s)
   unfolding fold table line row records
   text-records zero s = refl
   text-records (suc n) s =
@@ -78,21 +78,21 @@ module _ (p : Pair) where
   text-is = simp append-nil at (text-records (horizon p) [])
 
   rows-constraints : (n : ℕ) → map constraintOf (table rowOf n) ≡ table tripleOf n
-  rows-constraints n = map-table constraintOf rowOf n ∙ table-ext _ _ n (λ d _ _. row-constraint d (least p d) (ceiling p d))
+  rows-constraints n = map-table constraintOf rowOf n ∙ table-ext _ _ n (λ d _ _. row-constraint d (lowerAt p d) (upperAt p d))
 
 -- ---- the pair
 module _ (p : Pair) (ok : AllYes (pairQuestions p))
-    (small : (d : ℕ) → 1 ≤ d → d ≤ horizon p → (ceiling p d ≤ messageLimit) × (least p d ≤ messageLimit)) where
+    (small : (d : ℕ) → 1 ≤ d → d ≤ horizon p → (upperAt p d ≤ messageLimit) × (lowerAt p d ≤ messageLimit)) where
   -- Each record passes the questions of a record.
   rows-yes : (n : ℕ) → n ≤ horizon p → AllYes (recordQuestions [] (table (rowOf p) n))
   unfolding table
   rows-yes zero l = tt
   rows-yes (suc n) l =
       let d = suc n in
-      let is = row-constraint d (least p d) (ceiling p d) in
+      let is = row-constraint d (lowerAt p d) (upperAt p d) in
       let (u, v) = small d (omega arith) l in
       one-more [] (table (rowOf p) n) (rowOf p d) (rows-yes n (omega arith))
-      (row-formed d (least p d) (ceiling p d) (omega (arith, ok .0 .1)) (omega (arith, v)) (omega (arith, u)))
+      (row-formed d (lowerAt p d) (upperAt p d) (omega (arith, ok .0 .1)) (omega (arith, v)) (omega (arith, u)))
       (rw is (record { some = omega arith; window = omega (arith, ok .0 .1); least = v; most = u }))
       (rw (rows-constraints p n) (each-table _ (tripleOf p) n (λ k _ q e. omega (arith, ap (λ c. c .window) is))))
 
@@ -124,15 +124,15 @@ module _ (p : Pair) (ok : AllYes (pairQuestions p))
   read-pair =
       (λ i. filled (read-horizon i) (read-constraints i)) ∙ (λ i. record {
         upper =
-            (table-ext _ (ceiling p) (horizon p) (named-row (λ c. c .most) (λ d. d * smallestMost (table (tripleOf p) (horizon p))))
-            ∙ table-self (ceiling p) (p .upper) 0 (λ k _. refl)) i;
+            (table-ext _ (upperAt p) (horizon p) (named-row (λ c. c .most) (λ d. d * smallestMost (table (tripleOf p) (horizon p))))
+            ∙ table-self (upperAt p) (p .upper) 0 (λ k _. refl)) i;
         lower =
-            (table-ext _ (least p) (horizon p) (named-row (λ c. c .least) (λ d. 0))
-            ∙ ap (table (least p)) (sym (ok .1 .0))
-            ∙ table-self (least p) (p .lower) 0 (λ k _. refl)) i;
+            (table-ext _ (lowerAt p) (horizon p) (named-row (λ c. c .least) (λ d. 0))
+            ∙ ap (table (lowerAt p)) (sym (ok .1 .0))
+            ∙ table-self (lowerAt p) (p .lower) 0 (λ k _. refl)) i;
       })
 
-  reads : (found : Pair) → horizon p ≤ length (found .upper) → horizon p ≤ length (found .lower) → AllYes (questions (textOf p) found)
+  reads : (found : Pair) → horizon p ≤ length (found .upper) → horizon p ≤ length (found .lower) → AllYes (readingQuestions (textOf p) found)
   reads found u l = (
     (omega (arith, text-fits p ok), ap (λ (rs : List Bytes). getD rs 0 []) (text-is p)),
     yes-append (recordQuestions [] (later (textOf p))) (question10 (textOf p) ∷ question11 (textOf p) found ∷ [])

@@ -7,8 +7,8 @@ use Rattle.history.specs.States.{question12}
 use Rattle.bounds.specs.Bounds.{pairQuestions}
 use Rattle.history.specs.Opening.{opening}
 use Rattle.monitor.specs.Monitoring.{judging}
-use Rattle.generator.specs.Generating.{lookQuestions, Bounds, looking, sentFrom}
-use Rattle.guarantees.specs.Total.{OpeningRefused, JudgingRefused, LookingRefused, SendingRefused, RefusedMonitorStays}
+use Rattle.generator.specs.Generating.{rangeQuestions, Ends, ranging, sentFrom}
+use Rattle.guarantees.specs.Total.{OpeningRefused, JudgingRefused, RangingRefused, SendingRefused, RefusedMonitorStays}
 use Rattle.guarantees.specs.Total.{RefusedGeneratorStays}
 
 pub opening-refused : OpeningRefused
@@ -19,14 +19,14 @@ pub judging-refused : JudgingRefused
 unfolding judging
 judging-refused w x n = refusal-iff (question12 (w .view) ∷ []) _ n
 
-pub looking-refused : LookingRefused
-unfolding looking
-looking-refused v n = refusal-iff (lookQuestions v) _ n
+pub ranging-refused : RangingRefused
+unfolding ranging
+ranging-refused v n = refusal-iff (rangeQuestions v) _ n
 
 pub sending-refused : SendingRefused
-sending-refused v choice n = Iff·trans (there (looking v), λ e. rw e) (looking-refused v n)
+sending-refused v choice n = Iff·trans (there (ranging v), λ e. rw e) (ranging-refused v n)
   where
-    there : (a : Reply Bounds) → sentFrom a choice ≡ refusal n → a ≡ refusal n
+    there : (a : Reply Ends) → sentFrom a choice ≡ refusal n → a ≡ refusal n
     there (result b) e = cc
     there (refusal k) e = cc
 

@@ -14,16 +14,16 @@ use Rattle.history.specs.States.{View, viewOf, Legal}
 use Rattle.history.specs.Opening.{opening, fresh}
 use Rattle.monitor.specs.declared.Monitor.{Monitor}
 use Rattle.monitor.specs.declared.Judgement.{Judgement}
-use Rattle.monitor.specs.Monitoring.{MonitorView, monitorView, monitorViewOf, judged, alreadyFailed, judging}
+use Rattle.monitor.specs.Monitoring.{MonitorView, monitorView, monitorViewOf, EqualMonitors, judged, alreadyFailed, judging}
 use Rattle.monitor.specs.Answers.{verdictReply}
 use Rattle.monitor.specs.Promises.{MonitorTicked}
 use Rattle.monitor.specs.Calls.{afterTicks, rulings, Tick, Ticks}
 use Rattle.generator.specs.declared.Generator.{Generator}
 use Rattle.generator.specs.declared.Admissible.{Admissible}
 use Rattle.generator.specs.declared.Sent.{Sent}
-use Rattle.generator.specs.Generating.{Bounds, looking, sending}
+use Rattle.generator.specs.Generating.{Ends, ranging, sending, EqualGenerators}
 use Rattle.generator.specs.Answers.{rangeReply, sendingReply}
-use Rattle.generator.specs.Promises.{GeneratorTicked, GeneratorLooked}
+use Rattle.generator.specs.Promises.{GeneratorTicked, GeneratorRanged}
 use Rattle.generator.specs.Calls.{sendings, Call, Calls, choicesOf, repliesOf}
 
 -- A monitor that has not failed.
@@ -35,9 +35,9 @@ abbrev pub Passes : View → ℕ → Type 0
 Passes v x = judging (unfailed v) x ≡ result (judged passed)
 
 -- ---- the monitor, in any legal state
--- It turns a tick down exactly when some window that ends there is outside its figures.
-abbrev pub TurnsDownIffOutside : Type 0
-TurnsDownIffOutside =
+-- It rejects a tick (document 01: turns it down) exactly when some window that ends there is outside its figures.
+abbrev pub RejectsIffOutside : Type 0
+RejectsIffOutside =
     (v : View) (x : ℕ) → Legal v
     → (¬ Passes v x) ↔ ((d : ℕ) × Judged (v .pair) (then (v .held) x) d × (¬ Inside (v .pair) d (last (then (v .held) x) d)))
 
@@ -60,7 +60,7 @@ RightOfWholeStream =
     (p : Pair) → opening p ≡ result tt → (xs : List ℕ) → AllPass p xs → (x : ℕ) (w : Verdict)
     → (judging (afterTicks (unfailed (fresh p)) xs) x ≡ result (judged w)) ↔ Right p (then xs x) w
 
--- Once a tick is turned down, every later one is answered 'already failed'.
+-- Once a tick is rejected, every later one is answered 'already failed'.
 abbrev pub NothingPassesAfter : Type 0
 NothingPassesAfter =
     (p : Pair) → opening p ≡ result tt → (xs : List ℕ) → AllPass p xs → (x : ℕ) → (¬ AllPass p (then xs x)) → (ys : List ℕ)
@@ -72,22 +72,22 @@ abbrev pub SendsIffPasses : Type 0
 SendsIffPasses =
     (v : View) → Legal v → (x : ℕ) → ((choice : ℕ) × (choice ≤ countLimit) × (sending v choice ≡ result x)) ↔ Passes v x
 
--- A look, and a tick with any choice, are refused with 13 exactly when it would pass none.
+-- The range, and a tick with any choice, are refused with 13 exactly when it would pass none.
 abbrev pub NoCountIffNonePasses : Type 0
 NoCountIffNonePasses =
     (v : View) → Legal v
-    → ((looking v ≡ refusal 13) ↔ ((x : ℕ) → ¬ Passes v x))
+    → ((ranging v ≡ refusal 13) ↔ ((x : ℕ) → ¬ Passes v x))
     × ((choice : ℕ) → (sending v choice ≡ refusal 13) ↔ ((x : ℕ) → ¬ Passes v x))
 
--- A look shows the smallest and the largest that it would pass.
-pub record Extremes (v : View) (b : Bounds) : Type 0 where
+-- The range shows the smallest and the largest that it would pass.
+pub record SmallestAndLargest (v : View) (b : Ends) : Type 0 where
   pub lo-passes : Passes v (b .lo)
   pub hi-passes : Passes v (b .hi)
   pub smallest : (x : ℕ) → Passes v x → b .lo ≤ x
   pub largest : (x : ℕ) → Passes v x → x ≤ b .hi
 
-abbrev pub LookShowsExtremes : Type 0
-LookShowsExtremes = (v : View) → Legal v → (b : Bounds) → (looking v ≡ result b) ↔ Extremes v b
+abbrev pub RangeShowsExtremes : Type 0
+RangeShowsExtremes = (v : View) → Legal v → (b : Ends) → (ranging v ≡ result b) ↔ SmallestAndLargest v b
 
 -- From fresh openings the lists of counts that can be sent are the conforming ones.
 abbrev pub SendsConforming : Type 0
@@ -102,23 +102,22 @@ TicksAreRulings =
     (m : Monitor) (ts : List Tick) → Ticks m ts
     → map (λ (t : Tick). verdictReply (t .judgement .verdict)) ts ≡ rulings (monitorViewOf m) (map (λ (t : Tick). t .count) ts)
 
--- Likewise of the generator's, whatever looks stand between the ticks.
+-- Likewise of the generator's, whatever ranges are asked for between the ticks.
 abbrev pub CallsAreSendings : Type 0
 CallsAreSendings = (g : Generator) (cs : List Call) → Calls g cs → repliesOf cs ≡ sendings (viewOf (g .history)) (choicesOf cs)
 
 -- Equal states get equal answers, and next states that are equal.
 abbrev pub EqualMonitorsAgree : Type 0
 EqualMonitorsAgree =
-    (m m′ : Monitor) (x : ℕ) (r r′ : Judgement) → monitorViewOf m ≡ monitorViewOf m′ → MonitorTicked m x r → MonitorTicked m′ x r′
-    → (verdictReply (r .verdict) ≡ verdictReply (r′ .verdict)) × (monitorViewOf (r .next) ≡ monitorViewOf (r′ .next))
+    (m m′ : Monitor) (x : ℕ) (r r′ : Judgement) → EqualMonitors m m′ → MonitorTicked m x r → MonitorTicked m′ x r′
+    → (verdictReply (r .verdict) ≡ verdictReply (r′ .verdict)) × EqualMonitors (r .next) (r′ .next)
 
 abbrev pub EqualGeneratorsAgree : Type 0
 EqualGeneratorsAgree =
-    (g g′ : Generator) (choice : ℕ) (r r′ : Sent) → viewOf (g .history) ≡ viewOf (g′ .history)
-    → GeneratorTicked g choice r → GeneratorTicked g′ choice r′
-    → (sendingReply (r .sending) ≡ sendingReply (r′ .sending)) × (viewOf (r .next .history) ≡ viewOf (r′ .next .history))
+    (g g′ : Generator) (choice : ℕ) (r r′ : Sent) → EqualGenerators g g′ → GeneratorTicked g choice r → GeneratorTicked g′ choice r′
+    → (sendingReply (r .sending) ≡ sendingReply (r′ .sending)) × EqualGenerators (r .next) (r′ .next)
 
-abbrev pub EqualGeneratorsShow : Type 0
-EqualGeneratorsShow =
-    (g g′ : Generator) (a a′ : Admissible) → viewOf (g .history) ≡ viewOf (g′ .history) → GeneratorLooked g a → GeneratorLooked g′ a′
+abbrev pub EqualGeneratorsRange : Type 0
+EqualGeneratorsRange =
+    (g g′ : Generator) (a a′ : Admissible) → EqualGenerators g g′ → GeneratorRanged g a → GeneratorRanged g′ a′
     → rangeReply a ≡ rangeReply a′

@@ -1,7 +1,7 @@
 -- What the customer was promised, over the definitions that the promises cite.
 pub mod Total
 pub mod Exact
-pub mod NeverStuck
+pub mod NeverRefused
 pub mod Cost
 pub mod Marked
 pub mod ReadBack

@@ -2,7 +2,7 @@
 use Prim.Native.Nat.{ℕ, _≤_}
 use mathlib.Core.Path.{_≡_}
 use lib.ListN.{length, take}
-use Rattle.curves.specs.Pairs.{Pair, horizon, ceiling, least}
+use Rattle.curves.specs.Pairs.{Pair, horizon, upperAt, lowerAt}
 use Rattle.csv.specs.Text.{Bytes}
 use Rattle.csv.specs.Records.{messageLimit}
 use Rattle.constraints.specs.Theorems.{GivesPair, givenPair}
@@ -16,6 +16,6 @@ rendered p = take (rendering p .length) (rendering p .bytes)
 abbrev pub ReadsBack : Type 0
 ReadsBack =
     (p found : Pair) → rendering p .number ≡ 0
-    → ((d : ℕ) → 1 ≤ d → d ≤ horizon p → (ceiling p d ≤ messageLimit) × (least p d ≤ messageLimit))
+    → ((d : ℕ) → 1 ≤ d → d ≤ horizon p → (upperAt p d ≤ messageLimit) × (lowerAt p d ≤ messageLimit))
     → horizon p ≤ length (found .upper) → horizon p ≤ length (found .lower)
     → GivesPair (rendered p) found × (givenPair (rendered p) found ≡ p)

@@ -16,7 +16,7 @@ use Rattle.monitor.specs.Answers.{verdictReply}
 use Rattle.monitor.specs.Promises.{MonitorTicked}
 use Rattle.generator.specs.declared.Generator.{Generator}
 use Rattle.generator.specs.declared.Sent.{Sent}
-use Rattle.generator.specs.Generating.{lookQuestions, looking, sending}
+use Rattle.generator.specs.Generating.{rangeQuestions, ranging, sending}
 use Rattle.generator.specs.Answers.{sendingReply}
 use Rattle.generator.specs.Promises.{GeneratorTicked}
 
@@ -28,12 +28,12 @@ OpeningRefused = (p : Pair) (n : ℕ) → (opening p ≡ refusal n) ↔ FirstNo 
 abbrev pub JudgingRefused : Type 0
 JudgingRefused = (w : MonitorView) (x n : ℕ) → (judging w x ≡ refusal n) ↔ FirstNo (question12 (w .view) ∷ []) n
 
--- A look at the range, and a tick of the generator: 12, 13.
-abbrev pub LookingRefused : Type 0
-LookingRefused = (v : View) (n : ℕ) → (looking v ≡ refusal n) ↔ FirstNo (lookQuestions v) n
+-- The range, and a tick of the generator: 12, 13.
+abbrev pub RangingRefused : Type 0
+RangingRefused = (v : View) (n : ℕ) → (ranging v ≡ refusal n) ↔ FirstNo (rangeQuestions v) n
 
 abbrev pub SendingRefused : Type 0
-SendingRefused = (v : View) (choice n : ℕ) → (sending v choice ≡ refusal n) ↔ FirstNo (lookQuestions v) n
+SendingRefused = (v : View) (choice n : ℕ) → (sending v choice ≡ refusal n) ↔ FirstNo (rangeQuestions v) n
 
 -- A refused tick hands the very state back.
 abbrev pub RefusedMonitorStays : Type 0

@@ -1,20 +1,16 @@
 -- Laws over plain variables that the proofs about a history cite.
 -- Assumes nothing.
-use Rattle.laws.proofs.Base.{Bool, length-replicate, ℕ, suc, _+_, _-_, _≤_, _<_, _≡_, refl, sym, ap, _∙_, subst, subst⁻¹, List, [], _∷_}
-use Rattle.laws.proofs.Base.{_++_, add-one, arith}
-use Rattle.laws.proofs.Base.{length, getD, set, take, drop, replicate, length-append, length-drop, length-set, length-take-le, ext-getD}
-use Rattle.laws.proofs.Base.{getD-drop, take-at}
+use Rattle.laws.proofs.Base.{ℕ, _≤_, _<_, _≡_, refl, sym, ap, _∙_, subst, subst⁻¹, Bool, List, [], _∷_, _++_, arith}
+use Rattle.laws.proofs.Base.{length, take, drop, replicate, length-append, length-replicate, length-take-le, ext-getD, take-at}
 use types.Run.{OneOf, miss}
 use denote.Enum.Declared.{tagOf}
-use lib.Seq.{take-suc-set, getD-take}
+use lib.Seq.{getD-take}
 use Rattle.lists.specs.Copying.{Copied}
 use Rattle.lists.proofs.Whole.{beginning}
 use Rattle.laws.specs.Ranges.{table}
-use Rattle.laws.proofs.Table.{Filled, stored, later, length-table, getD-table}
+use Rattle.laws.proofs.Table.{length-table, getD-table}
 use Rattle.curves.specs.Pairs.{Pair, figure, pairOf, horizon}
-use Rattle.curves.specs.Ticks.{then}
 use Rattle.curves.specs.Questions.{AllYes, FirstNo, result, refusal}
-use Rattle.curves.proofs.NextTick.{length-then}
 use Rattle.curves.proofs.Asked.{said-no, said-yes, result-from}
 use Rattle.bounds.specs.Bounds.{Bounded, maxHorizon, question4, pairQuestions}
 use Rattle.bounds.specs.declared.Asked.{Asked}
@@ -25,18 +21,10 @@ use Rattle.history.specs.declared.Opening.{Opening}
 use Rattle.history.proofs.Opening.{the-type}
 use Rattle.history.specs.declared.Opening.the-variants.{Opened}
 use Rattle.history.specs.declared.Opening.the-variants as opening
-use Rattle.history.specs.States.{View, Legal, viewOf, entries, added}
-use Rattle.history.specs.Opening.{opening, fresh, blank, Begun}
+use Rattle.history.specs.States.{Legal, viewOf, entries}
+use Rattle.history.specs.Opening.{opening, fresh, zeroHistory, Begun}
 use Rattle.history.specs.Answers.{openingReply}
-use Rattle.history.specs.Promises.{Room}
-use Rattle.history.specs.Steps.{openingFor, paddedTo, moved, viewWith}
-
--- ---- entries that move to the front
--- A turn of the loop that moves them: the entries from i on are as they were.
-pub moved-turn
-    : (xs out : List ℕ) (i : ℕ) → i + 1 < length xs → Filled (λ k. getD xs k 0) xs out i
-    → Filled (λ k. getD xs k 0) xs (set out i (getD out (i + 1) 0)) (i + 1)
-moved-turn xs out i h t = stored t (getD out (i + 1) 0) (omega arith) (later t (i + 1) (omega arith))
+use Rattle.history.specs.Steps.{openingFor, paddedTo, Room, viewWith}
 
 -- ---- a view of a state
 -- The entries that count are a part of the array, where it has them.
@@ -50,7 +38,7 @@ entries-take n xs h =
 
 module _ (s : History) where
   -- A view has as many figures and held ticks as the two fields say.
-  horizon-seen : horizon (viewOf s .pair) ≡ s .horizon
+  pub horizon-seen : horizon (viewOf s .pair) ≡ s .horizon
   horizon-seen = length-table (figure 0 (s .upper)) (s .horizon)
 
   held-seen : length (viewOf s .held) ≡ s .held
@@ -84,68 +72,6 @@ module _ (s : History) where
           fewer = omega (arith, horizon-seen, held-seen);
         }
 
--- ---- a tick more
--- There is a place for it.
-pub room-held : (s : History) → Room s → s .held < maxHorizon
-room-held s r = omega (arith, r .within, r .fewer)
-
--- It is stored behind the held ones.
-entries-then : (n x : ℕ) (xs : List ℕ) → n < length xs → entries (n + 1) (set xs n x) ≡ then (entries n xs) x
-entries-then n x xs l =
-    entries-take (n + 1) (set xs n x) (omega (arith, length-set xs n x))
-    ∙ ap (λ k. take k (set xs n x)) (add-one n)
-    ∙ take-suc-set xs n x l
-    ∙ ap (λ l. then l x) (sym (entries-take n xs (omega arith)))
-
--- The first n entries after a move: the oldest of n + 1 is gone.
-entries-moved : (n : ℕ) (xs : List ℕ) → entries n (moved xs n) ≡ drop 1 (entries (n + 1) xs)
-unfolding figure
-entries-moved n xs =
-    entries-take n (moved xs n) (omega (arith, length-append front (drop n xs), length-table next n))
-    ∙ take-at front (drop n xs) n (length-table next n)
-    ∙ ext-getD 0 front (drop 1 (entries (n + 1) xs))
-    (omega (arith, length-table next n, length-drop 1 (entries (n + 1) xs), length-table (figure 0 xs) (n + 1)))
-    (λ i l.
-    let l′ : i < n = (rw length-table at l) in
-    let e : suc i ≡ 1 + i = omega arith in
-    getD-table next n i 0 l′ ∙ ap next e
-    ∙ sym (getD-drop 1 (entries (n + 1) xs) i 0 ∙ getD-table (figure 0 xs) (n + 1) (1 + i) 0 (omega arith)))
-  where
-    next : ℕ → ℕ
-    next k = getD xs k 0
-
-    front : List ℕ
-    front = table next n
-
-module _ (s : History) (x : ℕ) (l : s .held < length (s .ticks)) where
-  abbrev longer : List ℕ
-  longer = then (viewOf s .held) x
-
-  -- How many of the ticks make way.
-  less : length longer - (horizon (viewOf s .pair) - 1) ≡ s .held + 1 - (s .horizon - 1)
-  less = omega (arith, length-then (viewOf s .held) x, horizon-seen s, held-seen s)
-
-  abbrev holding : List ℕ → View
-  holding xs = record { pair = viewOf s .pair; held = xs }
-
-  -- There is room for it.
-  pub added-last : s .held + 1 < s .horizon → holding (entries (s .held + 1) (set (s .ticks) (s .held) x)) ≡ added (viewOf s) x
-  added-last h =
-      let none : length longer - (horizon (viewOf s .pair) - 1) ≡ 0 = omega (arith, less) in
-      ap holding (entries-then (s .held) x (s .ticks) l ∙ ap (λ k. drop k longer) (sym none))
-
-  -- The oldest makes way.
-  pub added-full
-      : (later : List ℕ) → later ≡ moved (set (s .ticks) (s .held) x) (s .held) → s .held < s .horizon → s .horizon ≤ s .held + 1
-      → holding (entries (s .held) later) ≡ added (viewOf s) x
-  added-full later e f h =
-      let one : length longer - (horizon (viewOf s .pair) - 1) ≡ 1 = omega (arith, less) in
-      ap holding
-      (ap (entries (s .held)) e
-      ∙ entries-moved (s .held) (set (s .ticks) (s .held) x)
-      ∙ ap (drop 1) (entries-then (s .held) x (s .ticks) l)
-      ∙ ap (λ k. drop k longer) (sym one))
-
 -- ---- an opening
 -- The figures are put over the first of an array of zeros.
 pub padded-is : (us zeros out : List ℕ) (same : Bool) → length us ≤ maxHorizon → zeros ≡ replicate maxHorizon 0
@@ -154,7 +80,7 @@ padded-is us zeros out same h z c =
     beginning c (omega (arith, ap length z, length-replicate {A = ℕ} maxHorizon 0)) ∙ ap (λ l. us ++ drop (length us) l) z
 
 -- They are the entries that count.
-entries-padded : (us rest : List ℕ) (h : ℕ) → length us ≡ h → entries h (us ++ rest) ≡ us
+pub entries-padded : (us rest : List ℕ) (h : ℕ) → length us ≡ h → entries h (us ++ rest) ≡ us
 entries-padded us rest h e =
     entries-take h (us ++ rest) (omega (arith, e, length-append us rest)) ∙ take-at us rest h e
 
@@ -165,8 +91,8 @@ freshHistory h us ls xs = record { horizon = h; upper = us; lower = ls; held = 0
 -- Three arrays of zeros make a blank history.
 pub blank-is
     : (us ls xs : List ℕ) → us ≡ replicate maxHorizon 0 → ls ≡ replicate maxHorizon 0 → xs ≡ replicate maxHorizon 0
-    → freshHistory 0 us ls xs ≡ blank
-unfolding blank
+    → freshHistory 0 us ls xs ≡ zeroHistory
+unfolding zeroHistory
 blank-is us ls xs u l x = λ i. freshHistory 0 (u i) (l i) (x i)
 
 -- ---- the answer of an opening
@@ -193,7 +119,7 @@ module _ (p : Pair) (h : History) (o : Opening) (e : openingReply o ≡ opening 
   pub begun-fresh : o ≡ Opened → viewOf h ≡ fresh p → Begun (opening p) p h
   begun-fresh k v = rw (← e, k) v
 
-  pub begun-blank : OneOf (1 ∷ 2 ∷ 3 ∷ []) (tagOf the-type o) → h ≡ blank → Begun (opening p) p h
+  pub begun-blank : OneOf (1 ∷ 2 ∷ 3 ∷ []) (tagOf the-type o) → h ≡ zeroHistory → Begun (opening p) p h
   begun-blank m b = rw (← e) (refused o m)
     where
       refused : (o : Opening) → OneOf (1 ∷ 2 ∷ 3 ∷ []) (tagOf the-type o) → Begun (openingReply o) p h

@@ -1,15 +1,17 @@
--- What a legal history has: room for a tick, and slices that are what its view has.
+-- What a legal history has: slices that are what its view has, and room for a tick.
 -- Assumes nothing.
-use Rattle.laws.proofs.Base.{ℕ, suc, _≤_, _<_, _≡_, sym, List, arith, length, take, length-take-le}
-use Rattle.curves.specs.Pairs.{pairOf}
-use Rattle.curves.specs.Ticks.{then, Judged}
+use Rattle.laws.proofs.Base.{ℕ, suc, _-_, _≤_, _<_, _≡_, sym, ap, _∙_, List, _++_, append-assoc, arith}
+use Rattle.laws.proofs.Base.{length, take, drop, length-drop, length-take-le, take-all}
+use lib.Seq.{take-take}
+use Rattle.curves.specs.Pairs.{horizon, pairOf}
+use Rattle.curves.specs.Ticks.{then, newest, Judged}
 use Rattle.curves.proofs.NextTick.{length-then}
 use Rattle.bounds.specs.Bounds.{maxHorizon}
+use Rattle.lists.specs.Pushing.{behind, heldWith, Pushed}
 use Rattle.history.specs.declared.History.{History}
-use Rattle.history.specs.States.{View, viewOf, Legal}
+use Rattle.history.specs.States.{View, entries, viewOf, added, Legal}
 use Rattle.history.specs.Steps.{Slices, viewWith}
-use Rattle.history.proofs.Histories.{entries-take}
-pub use Rattle.history.proofs.Histories.{legal-room}
+use Rattle.history.proofs.Histories.{entries-take, entries-padded, horizon-seen, legal-room}
 
 -- How long the arrays are.
 pub record Arrays (h : History) : Type 0 where
@@ -55,6 +57,50 @@ module _ (h : History) (A : Arrays h) (L : Legal (viewOf h)) where
       (entries-take (h .horizon) (h .upper) upper-room i)
       (entries-take (h .horizon) (h .lower) lower-room i)
       (entries-take (h .held) (h .ticks) ticks-room i)
+
+  -- ---- a tick more
+  pub some-window : 1 ≤ h .horizon
+  some-window = omega (arith, legal-room h L .fewer)
+
+  -- The places for ticks: one fewer than the horizon.
+  pub places-room : h .horizon - 1 ≤ length (h .ticks)
+  places-room = omega (arith, A .held, legal-room h L .within)
+
+  abbrev places : List ℕ
+  places = take (h .horizon - 1) (h .ticks)
+
+  pub places-length : h .horizon - 1 ≡ length places
+  places-length = sym (length-take-le (h .horizon - 1) (h .ticks) places-room)
+
+  -- What is held after a push into them are the last ticks with the new one.
+  held-newest : (x : ℕ) → heldWith places (h .held) x ≡ newest (horizon (viewOf h .pair) - 1) (then (viewOf h .held) x)
+  held-newest x =
+      let many : length places ≡ horizon (viewOf h .pair) - 1 = omega (arith, places-length, horizon-seen h) in
+      let same : take (h .held) places ≡ entries (h .held) (h .ticks) =
+      take-take (h .held) (h .horizon - 1) (h .ticks) (omega (arith, legal-room h L .fewer)) ∙ sym (entries-take (h .held) (h .ticks) ticks-room) in
+      λ i. newest (many i) (then (same i) x)
+
+  pub added-is : (x : ℕ) (left : List ℕ) (n : ℕ) → Pushed places (h .held) x left n
+      → viewOf (record {
+        horizon = h .horizon;
+        upper = h .upper;
+        lower = h .lower;
+        held = n;
+        ticks = left ++ drop (h .horizon - 1) (h .ticks);
+      }) ≡ added (viewOf h) x
+  added-is x left n p = ap (λ ys. record { pair = viewOf h .pair; held = ys }) (front ∙ held-newest x)
+    where
+      kept : List ℕ
+      kept = heldWith places (h .held) x
+
+      few : length kept ≤ length places
+      few = omega (arith, length-drop (length (behind places (h .held) x) - length places) (behind places (h .held) x))
+
+      front : entries n (left ++ drop (h .horizon - 1) (h .ticks)) ≡ kept
+      front =
+          ap (λ ys. entries n (ys ++ drop (h .horizon - 1) (h .ticks))) (p .entries ∙ ap (λ ys. ys ++ drop (length kept) places) (take-all (length places) kept few))
+          ∙ ap (entries n) (append-assoc kept _ _)
+          ∙ entries-padded kept _ n (sym (p .number))
 
 -- The window of d + 1 ticks that ends at the next one is judged: there are fewer held ticks than figures.
 pub judged-next

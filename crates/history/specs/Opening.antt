@@ -16,8 +16,8 @@ abbrev pub fresh : Pair → View
 fresh p = record { pair = p; held = [] }
 
 -- Every field and every entry is 0.
-unfoldable pub blank : History
-blank =
+unfoldable pub zeroHistory : History
+zeroHistory =
     record {
       horizon = 0;
       upper = replicate maxHorizon 0;
@@ -29,4 +29,4 @@ blank =
 -- The history that an opening hands out. Where it is not refused, what lies past the horizon and past the held ticks is free.
 abbrev pub Begun : Reply (Unit {0}) → Pair → History → Type 0
 Begun (result _) p h = viewOf h ≡ fresh p
-Begun (refusal n) p h = h ≡ blank
+Begun (refusal n) p h = h ≡ zeroHistory

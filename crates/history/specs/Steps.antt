@@ -2,12 +2,12 @@
 use Prim.Native.Nat.{ℕ, _≤_, _<_}
 use mathlib.Core.Path.{_≡_}
 use mathlib.Core.List.{List, _++_}
-use lib.ListN.{length, getD, drop, replicate}
-use Rattle.laws.specs.Ranges.{table}
+use lib.ListN.{length, drop, replicate}
 use Rattle.curves.specs.Pairs.{pairOf}
 use Rattle.bounds.specs.Bounds.{maxHorizon}
 use Rattle.bounds.specs.declared.Asked.{Asked}
 use Rattle.bounds.specs.declared.Asked.the-variants as asked
+use Rattle.history.specs.declared.History.{History}
 use Rattle.history.specs.declared.Opening.{Opening}
 use Rattle.history.specs.declared.Opening.the-variants as opening
 use Rattle.history.specs.States.{View}
@@ -23,9 +23,10 @@ openingFor asked.FigureLimit = opening.FigureLimit
 abbrev pub paddedTo : List ℕ → List ℕ
 paddedTo us = us ++ drop (length us) (replicate maxHorizon 0)
 
--- The first n entries are those of one place further on.
-abbrev pub moved : List ℕ → ℕ → List ℕ
-moved xs n = table (λ k. getD xs k 0) n ++ drop n xs
+-- The horizon is at most 256, and fewer ticks are held: what question 12 asks of the two numbers.
+pub record Room (h : History) : Type 0 where
+  pub within : h .horizon ≤ maxHorizon
+  pub fewer : h .held < h .horizon
 
 -- Slices of figures up to the horizon, and of the held ticks.
 pub record Slices (us ls xs : List ℕ) : Type 0 where

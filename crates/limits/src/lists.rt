@@ -26,29 +26,33 @@ fn try_length(n: usize)
     try_lists(n, LIMIT, LIMIT + 1);
 }
 
-fn try_lists(n: usize, ceiling: u32, least: u32)
+// All ceilings are one figure, and all leasts another.
+fn try_lists(n: usize, upper_figure: u32, lower_figure: u32)
     requires { ⌜ n ≤ 257 ⌝ }
 {
-    let ceilings = filled(ceiling);
-    let leasts = filled(least);
+    let upper = filled(upper_figure);
+    let lower = filled(lower_figure);
     io::write_all(STDOUT_FILENO, b"lists");
     numbers::show(n as u64);
-    numbers::show_two(ceiling as u64, least as u64);
-    try_pair(&ceilings[..n], &leasts[..n]);
+    numbers::show_two(upper_figure as u64, lower_figure as u64);
+    try_pair(&upper[..n], &lower[..n]);
     io::write_all(STDOUT_FILENO, b"\n");
 }
 
 // Closing the pair into lists that are longer, two ticks of a monitor, and two of a generator.
-fn try_pair(ceilings: &[u32], leasts: &[u32]) {
-    let mut upper = filled(7);
-    let mut lower = filled(7);
-    numbers::show(exports::calgedze_close(ceilings, leasts, &mut upper, &mut lower));
-    numbers::show_two(numbers::digest(&upper), numbers::digest(&lower));
+fn try_pair(upper: &[u32], lower: &[u32]) {
+    let mut closed_upper = filled(7);
+    let mut closed_lower = filled(7);
+    numbers::show(exports::calgedze_close(upper, lower, &mut closed_upper, &mut closed_lower));
+    numbers::show_two(
+        numbers::digest(&closed_upper),
+        numbers::digest(&closed_lower),
+    );
     let mut counts = [LIMIT, LIMIT + 1];
-    numbers::show(exports::calgedze_judge(ceilings, leasts, &mut counts) as u64);
+    numbers::show(exports::calgedze_judge(upper, lower, &mut counts) as u64);
     numbers::show(numbers::digest(&counts));
     let mut choices = [LIMIT, LIMIT + 1];
-    numbers::show(exports::calgedze_generate(ceilings, leasts, &mut choices) as u64);
+    numbers::show(exports::calgedze_generate(upper, lower, &mut choices) as u64);
     numbers::show(numbers::digest(&choices));
 }
 

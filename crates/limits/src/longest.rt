@@ -1,9 +1,7 @@
-// Pairs of many rounds: nine to a closure, which are the most that there can be, and eight to a least above its ceiling.
+// Pairs of many rounds: nine to a closure, which are the most that there can be, and eight to a least above its ceiling, which are not told.
 use crate::numbers;
 use libc::STDOUT_FILENO;
-use runs::Ending;
 ghost use mathlib.Core.Path.{_≡_};
-ghost use Prim.Native.Nat.{_≤_};
 ghost use lib.ListN.{length};
 
 const LIMIT: u32 = 16_776_960;
@@ -18,66 +16,36 @@ pub(crate) fn try_all() {
 
 // The pair of a text.
 fn try_text(text: &[u8]) {
-    let mut ceilings = figures(0);
-    let mut leasts = figures(0);
-    let horizon = exports::calgedze_read(text, &mut ceilings, &mut leasts);
+    let mut upper = figures(0);
+    let mut lower = figures(0);
+    let horizon = exports::calgedze_read(text, &mut upper, &mut lower);
     if horizon <= 256 {
         let h = horizon as usize;
-        try_pair(&ceilings[..h], &leasts[..h]);
+        try_closing(&upper[..h], &lower[..h]);
     }
 }
 
 // A ceiling of 40,000 messages a tick in 5 ticks, and a least of as many in 253.
 fn try_two_windows() {
-    let mut ceilings = figures(LIMIT);
-    let mut leasts = figures(0);
-    ceilings[4] = 200_000;
-    leasts[252] = 10_120_000;
-    try_pair(&ceilings, &leasts);
+    let mut upper = figures(LIMIT);
+    let mut lower = figures(0);
+    upper[4] = 200_000;
+    lower[252] = 10_120_000;
+    try_closing(&upper, &lower);
 }
 
-fn try_pair(ceilings: &[u32], leasts: &[u32])
-    requires { ⌜ length (now ceilings) ≤ 256 ⌝ }
-{
+// What closing the pair answers, and what it leaves of lists of 256 entries.
+fn try_closing(upper: &[u32], lower: &[u32]) {
+    let mut closed_upper = figures(7);
+    let mut closed_lower = figures(7);
     io::write_all(STDOUT_FILENO, b"rounds");
-    numbers::show(ceilings.len() as u64);
-    run(ceilings, leasts);
-    close(ceilings, leasts);
+    numbers::show(upper.len() as u64);
+    numbers::show(exports::calgedze_close(upper, lower, &mut closed_upper, &mut closed_lower));
+    numbers::show_two(
+        numbers::digest(&closed_upper),
+        numbers::digest(&closed_lower),
+    );
     io::write_all(STDOUT_FILENO, b"\n");
-}
-
-// How the rounds of the pair end.
-fn run(ceilings: &[u32], leasts: &[u32])
-    requires { ⌜ length (now ceilings) ≤ 256 ⌝ }
-{
-    let h = ceilings.len();
-    let mut upper = figures(7);
-    let mut lower = figures(7);
-    show_ending(runs::run(ceilings, leasts, &mut upper[..h], &mut lower[..h]));
-}
-
-// What closing the pair answers.
-fn close(ceilings: &[u32], leasts: &[u32]) {
-    let mut upper = figures(7);
-    let mut lower = figures(7);
-    numbers::show(exports::calgedze_close(ceilings, leasts, &mut upper, &mut lower));
-    numbers::show_two(numbers::digest(&upper), numbers::digest(&lower));
-}
-
-fn show_ending(ending: Ending) {
-    match ending {
-        Ending::Arrived { rounds } => {
-            io::write_all(STDOUT_FILENO, b" arrived");
-            numbers::show(rounds as u64);
-        }
-        Ending::Crossed { rounds } => {
-            io::write_all(STDOUT_FILENO, b" crossed");
-            numbers::show(rounds as u64);
-        }
-        Ending::Unfit => {
-            io::write_all(STDOUT_FILENO, b" unfit");
-        }
-    }
 }
 
 fn figures(figure: u32) -> [u32; MAX_HORIZON]

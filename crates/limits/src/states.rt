@@ -141,7 +141,7 @@ fn is_passed(verdict: Verdict) -> bool {
     }
 }
 
-// A look, a tick of the generator, and the state that comes back.
+// The range, a tick of the generator, and the state that comes back.
 fn try_generator(generator: Generator, choice: u32) {
     let admissible = generator.range();
     show_range(admissible);

@@ -1,6 +1,11 @@
-// Lists of figures.
+// Lists of figures and of counts.
 
+ghost use mathlib.Core.Path.{_≡_};
+ghost use Prim.Native.Nat.{_≤_};
+ghost use lib.ListN.{length};
 ghost use Rattle.lists.specs.Copying.{Copied};
+ghost use Rattle.lists.specs.Pushing.{Pushed};
+ghost use Rattle.lists.specs.Steps.{shiftedDown};
 
 // Puts the figures of `from` over those of `to`, as many as there is room for, and tells whether they stood there already: one loop for
 // both, as a round that changes nothing is the last.
@@ -18,4 +23,34 @@ pub fn copy(from: &[u32], to: &mut [u32]) -> bool
         i += 1;
     }
     same
+}
+
+// Puts a count behind the first `held` entries of a list that has room for the newest so many; where it is full, the oldest goes. Gives
+// back how many are then held.
+pub fn push(list: &mut [u32], held: usize, count: u32) -> usize
+    ensures { λ r. ⌜ Pushed (now (list .entry)) held count (now (list .exit)) r ⌝ }
+{
+    let room = list.len();
+    if held < room {
+        list[held] = count;
+        return held + 1;
+    }
+    if 0 < room {
+        shift_down(list);
+        list[room - 1] = count;
+    }
+    room
+}
+
+// Each place gets what the next one held; the last keeps its own.
+fn shift_down(list: &mut [u32])
+    requires { ⌜ 1 ≤ length (now list) ⌝ }
+    ensures { λ _. ⌜ now (list .exit) ≡ shiftedDown (now (list .entry)) ⌝ }
+{
+    let last = list.len() - 1;
+    let mut i = 0;
+    while i < last {
+        list[i] = list[i + 1];
+        i += 1;
+    }
 }

@@ -3,7 +3,7 @@ use Prim.Native.Nat.{ℕ}
 use mathlib.Core.Path.{_≡_}
 use mathlib.Core.Bool.{Bool, true, false, cond}
 use mathlib.Core.List.{[], _∷_}
-use Rattle.curves.specs.Ticks.{then, Verdict, passed, tooMany, tooFew}
+use Rattle.curves.specs.Ticks.{then, Verdict, passed, tooMany, tooFew, Right}
 use Rattle.curves.specs.Questions.{Reply, result, refusal, replyTo}
 use Rattle.curves.proofs.Verdicts.{verdict?}
 use Rattle.history.specs.States.{View, viewOf, added, question12}
@@ -20,9 +20,13 @@ monitorView v b = record { view = v; failed = b }
 abbrev pub monitorViewOf : Monitor → MonitorView
 monitorViewOf m = monitorView (viewOf (m .history)) (m .failed)
 
+-- Two states are equal: their horizon, the figures up to it, the held ticks in order and the failed mark are.
+abbrev pub EqualMonitors : Monitor → Monitor → Type 0
+EqualMonitors m m′ = monitorViewOf m ≡ monitorViewOf m′
+
 -- The verdict on a tick with the count x: the one that is `Right`.
 abbrev pub verdictOn : View → ℕ → Verdict
-verdictOn v x = verdict? (v .pair) (then (v .held) x) .0
+verdictOn v x = let found : (w : Verdict) × Right (v .pair) (then (v .held) x) w = verdict? (v .pair) (then (v .held) x) in found .0
 
 -- What a tick is answered: its verdict, or that the monitor has failed before.
 pub data Ruling : Type 0 where
@@ -33,13 +37,13 @@ unfoldable pub judging : MonitorView → ℕ → Reply Ruling
 judging w x = replyTo (question12 (w .view) ∷ []) (λ yeses. cond (w .failed) alreadyFailed (judged (verdictOn (w .view) x)))
 
 -- The same state with its failed mark set.
-abbrev pub marked : Monitor → Monitor
-marked m = record { history = m .history; failed = true }
+abbrev pub markedFailed : Monitor → Monitor
+markedFailed m = record { history = m .history; failed = true }
 
 -- The next state. A passed tick is added, and what lies outside the next state's view is free; else every field and entry is settled.
 abbrev pub MonitorNext : Reply Ruling → Monitor → ℕ → Monitor → Type 0
 MonitorNext (result (judged passed)) m x next = monitorViewOf next ≡ monitorView (added (viewOf (m .history)) x) false
-MonitorNext (result (judged (tooMany d))) m x next = next ≡ marked m
-MonitorNext (result (judged (tooFew d))) m x next = next ≡ marked m
+MonitorNext (result (judged (tooMany d))) m x next = next ≡ markedFailed m
+MonitorNext (result (judged (tooFew d))) m x next = next ≡ markedFailed m
 MonitorNext (result alreadyFailed) m x next = next ≡ m
 MonitorNext (refusal n) m x next = next ≡ m

@@ -6,12 +6,12 @@ use Rattle.curves.specs.Pairs.{Pair}
 use Rattle.history.specs.Opening.{opening, Begun}
 use Rattle.history.specs.Answers.{openingReply}
 use Rattle.monitor.specs.declared.Monitor.{Monitor}
-use Rattle.monitor.specs.declared.Opened.{Opened}
+use Rattle.monitor.specs.declared.OpenedMonitor.{OpenedMonitor}
 use Rattle.monitor.specs.declared.Judgement.{Judgement}
 use Rattle.monitor.specs.Monitoring.{monitorViewOf, judging, MonitorNext}
 use Rattle.monitor.specs.Answers.{verdictReply}
 
-pub record MonitorOpened (p : Pair) (r : Opened) : Type 0 where
+pub record MonitorOpened (p : Pair) (r : OpenedMonitor) : Type 0 where
   pub answer : openingReply (r .opening) ≡ opening p
   pub history : Begun (opening p) p (r .state .history)
   pub unfailed : r .state .failed ≡ false

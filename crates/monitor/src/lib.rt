@@ -1,14 +1,13 @@
-// The monitor: judges each tick of a stream by the windows that end there.
+// The monitor (document 01's line monitor): judges each tick of a stream by the windows that end there.
 
 use history::History;
 use history::Opening;
 ghost use mathlib.Core.Path.{_≡_};
-ghost use mathlib.Core.Bool.{false};
 ghost use Rattle.curves.specs.Pairs.{pairOf};
 ghost use Rattle.curves.specs.Questions.{result};
 ghost use Rattle.history.specs.States.{viewOf, added, Legal};
 ghost use Rattle.history.specs.Steps.{Slices, viewWith};
-ghost use Rattle.monitor.specs.Monitoring.{monitorView, judged, verdictOn, judging, marked, MonitorNext};
+ghost use Rattle.monitor.specs.Monitoring.{monitorView, judged, verdictOn, judging, markedFailed, MonitorNext};
 ghost use Rattle.monitor.specs.Answers.{verdictReply};
 ghost use Rattle.monitor.specs.Promises.{MonitorOpened, MonitorTicked};
 ghost use Rattle.monitor.specs.Steps.{AddsWhere};
@@ -18,7 +17,7 @@ pub struct Monitor {
     pub failed: bool,
 }
 
-pub struct Opened {
+pub struct OpenedMonitor {
     pub opening: Opening,
     pub state: Monitor,
 }
@@ -29,7 +28,7 @@ pub enum Verdict {
     // The shortest window that ends at the tick and is outside its figures: it has too many, or too few.
     TooMany { window: usize },
     TooFew { window: usize },
-    // A tick before this one was turned down.
+    // A tick before this one was rejected.
     AlreadyFailed,
     // 12: the state has no legal horizon, a figure above 16,776,960, or as many held ticks as its horizon or more.
     BadState,
@@ -41,14 +40,14 @@ pub struct Judgement {
 }
 
 impl Monitor {
-    // A monitor of the pair of `ceilings` and `leasts`, entry 0 for the window of one tick.
-    pub fn open(ceilings: &[u32], leasts: &[u32]) -> Opened
-        ensures { λ r. ⌜ MonitorOpened (pairOf (now (ceilings .entry)) (now (leasts .entry))) r ⌝ }
+    // A monitor of the pair of `upper` and `lower`, entry 0 for the window of one tick.
+    pub fn open(upper: &[u32], lower: &[u32]) -> OpenedMonitor
+        ensures { λ r. ⌜ MonitorOpened (pairOf (now (upper .entry)) (now (lower .entry))) r ⌝ }
     {
-        let start = History::open(ceilings, leasts);
+        let start = History::open(upper, lower);
         let opening = start.opening;
         let history = start.history;
-        Opened {
+        OpenedMonitor {
             opening,
             state: Monitor {
                 history,
@@ -124,7 +123,13 @@ fn advance(monitor: Monitor, verdict: Verdict, count: u32) -> Monitor
     ensures { λ r. ⌜ MonitorNext (verdictReply verdict) monitor count r ⌝ }
 {
     match verdict {
-        Verdict::Passed => add(monitor, count),
+        Verdict::Passed => {
+            let history = with_tick(monitor.history, count);
+            Monitor {
+                history,
+                failed: false,
+            }
+        }
         Verdict::TooMany { window: _ } => fail(monitor),
         Verdict::TooFew { window: _ } => fail(monitor),
         Verdict::AlreadyFailed => monitor,
@@ -132,21 +137,29 @@ fn advance(monitor: Monitor, verdict: Verdict, count: u32) -> Monitor
     }
 }
 
-// The state after a tick that passed.
-fn add(monitor: Monitor, count: u32) -> Monitor
-    requires { ⌜ Legal (viewOf (monitor .history)) ⌝ }
-    ensures { λ r. ⌜ (viewOf (r .history) ≡ added (viewOf (monitor .history)) count) × (r .failed ≡ false) ⌝ }
+// The history with one tick more. Of the ticks at most one fewer than the horizon is held.
+fn with_tick(history: History, count: u32) -> History
+    requires { ⌜ Legal (viewOf history) ⌝ }
+    ensures { λ r. ⌜ viewOf r ≡ added (viewOf history) count ⌝ }
 {
-    let history = monitor.history.push(count);
-    Monitor {
-        history,
-        failed: false,
+    let horizon = history.horizon;
+    let upper = history.upper;
+    let lower = history.lower;
+    let mut ticks = history.ticks;
+    let room = horizon - 1;
+    let held = lists::push(&mut ticks[..room], history.held, count);
+    History {
+        horizon,
+        upper,
+        lower,
+        held,
+        ticks,
     }
 }
 
-// The state after a tick that was turned down: the tick is not added.
+// The state after a tick that was rejected: the tick is not added.
 fn fail(monitor: Monitor) -> Monitor
-    ensures { λ r. ⌜ r ≡ marked monitor ⌝ }
+    ensures { λ r. ⌜ r ≡ markedFailed monitor ⌝ }
 {
     let history = monitor.history;
     Monitor {

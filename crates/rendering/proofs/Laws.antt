@@ -4,7 +4,7 @@ use Rattle.laws.proofs.Base.{ℕ, zero, suc, _+_, _-_, _*_, _≤_, _<_, _≡_, 
 use Rattle.laws.proofs.Base.{length-append}
 use Prim.Native.Nat.{_/_}
 use Rattle.laws.specs.Ranges.{fold}
-use Rattle.curves.specs.Pairs.{Pair, horizon, figure, ceiling, least}
+use Rattle.curves.specs.Pairs.{Pair, horizon, figure, upperAt, lowerAt}
 use Rattle.curves.specs.Questions.{AllYes}
 use Rattle.bounds.specs.Bounds.{figureLimit, pairQuestions}
 use Rattle.csv.specs.Text.{Bytes, header, crlf}
@@ -36,7 +36,7 @@ line-length w l m = simp length-append (omega arith)
 
 -- ---- the text of a pair, up to the window k
 abbrev pub textTo : Pair → ℕ → Bytes
-textTo p k = fold _++_ (header ++ crlf) (λ d. line d (least p d) (ceiling p d)) k
+textTo p k = fold _++_ (header ++ crlf) (λ d. line d (lowerAt p d) (upperAt p d)) k
 
 module _ (p : Pair) where
   -- The record after the first i windows.

@@ -7,36 +7,36 @@ use Rattle.curves.proofs.Asked.{said-no, said-yes, Positive, no-iff, yes-iff}
 use Rattle.bounds.specs.Bounds.{pairQuestions}
 use Rattle.csv.specs.Numbers.{decimal}
 use Rattle.csv.proofs.Numbers.{decimal-few}
-use Rattle.rendering.specs.Rendering.{longest, textOf, refusal, refused, written, rendering}
-use Rattle.rendering.specs.Theorems.{RefusedIffFirstNo, WrittenIffAllYes, TextFits, RefusalFits}
+use Rattle.rendering.specs.Rendering.{longest, textOf, refusalLine, refusedRendering, written, rendering}
+use Rattle.rendering.specs.Theorems.{RenderingRefused, WrittenIffAllYes, TextFits, RefusalFits}
 use Rattle.rendering.proofs.Laws.{text-whole, text-within}
 
 module _ (p : Pair) where
-  pub refused-is : (n : ℕ) → FirstNo (pairQuestions p) n → rendering p ≡ refused n
+  pub refused-is : (n : ℕ) → FirstNo (pairQuestions p) n → rendering p ≡ refusedRendering n
   unfolding rendering
-  refused-is n f = said-no (pairQuestions p) _ refused n f
+  refused-is n f = said-no (pairQuestions p) _ refusedRendering n f
 
   pub written-is : AllYes (pairQuestions p) → rendering p ≡ written (textOf p)
   unfolding rendering
-  written-is all = said-yes (pairQuestions p) _ refused (written (textOf p)) all (λ ys. refl)
+  written-is all = said-yes (pairQuestions p) _ refusedRendering (written (textOf p)) all (λ ys. refl)
 
   positive-numbers : Positive (pairQuestions p)
   positive-numbers = (omega arith, (omega arith, (omega arith, tt)))
 
-pub refused-iff-first-no : RefusedIffFirstNo
+pub rendering-refused : RenderingRefused
 unfolding rendering
-refused-iff-first-no p = no-iff (pairQuestions p) _ refused (λ x. x .number) (λ k. refl) (λ ys. refl) (positive-numbers p)
+rendering-refused p = no-iff (pairQuestions p) _ refusedRendering (λ x. x .number) (λ k. refl) (λ ys. refl) (positive-numbers p)
 
 pub written-iff-all-yes : WrittenIffAllYes
 unfolding rendering
-written-iff-all-yes p = yes-iff (pairQuestions p) _ refused (λ x. x .number) (λ k. refl) (λ ys. refl) (positive-numbers p)
+written-iff-all-yes p = yes-iff (pairQuestions p) _ refusedRendering (λ x. x .number) (λ k. refl) (λ ys. refl) (positive-numbers p)
 
 pub text-fits : TextFits
 text-fits p all = rw (text-whole p (horizon p) refl) (text-within p all (horizon p) (le-refl (horizon p)))
 
 -- Eight bytes, the number, two bytes.
-refusal-length : (n : ℕ) → length (refusal n) ≡ 10 + length (decimal n)
-unfolding refusal
+refusal-length : (n : ℕ) → length (refusalLine n) ≡ 10 + length (decimal n)
+unfolding refusalLine
 refusal-length n = simp length-append (omega arith)
 
 pub number-fits : (n : ℕ) → n ≤ 4_294_967_295 → 10 + length (decimal n) ≤ longest

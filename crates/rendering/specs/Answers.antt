@@ -3,14 +3,14 @@ use Prim.Native.Nat.{ℕ}
 use Rattle.rendering.specs.declared.Rendering.{Rendering}
 use Rattle.rendering.specs.declared.Rendering.the-variants.{Written, UpperLength, LowerLength, FigureLimit}
 use Rattle.rendering.specs.declared.Rendered.{Rendered}
-use Rattle.rendering.specs.Rendering.{Answer}
+use Rattle.rendering.specs.Rendering.{RenderingAnswer}
 
-abbrev pub numberOf : Rendering → ℕ
-numberOf Written = 0
-numberOf UpperLength = 1
-numberOf LowerLength = 2
-numberOf FigureLimit = 4
+abbrev pub renderingNumber : Rendering → ℕ
+renderingNumber Written = 0
+renderingNumber UpperLength = 1
+renderingNumber LowerLength = 2
+renderingNumber FigureLimit = 4
 
 -- What a call that returns r has answered.
-abbrev pub answer : Rendered → Answer
-answer r = record { number = numberOf (r .answer); length = r .length; bytes = r .bytes }
+abbrev pub renderingAnswer : Rendered → RenderingAnswer
+renderingAnswer r = record { number = renderingNumber (r .answer); length = r .length; bytes = r .bytes }

@@ -4,7 +4,7 @@ use Prim.Native.Nat.{ℕ, _-_}
 use mathlib.Core.List.{[], _∷_, _++_}
 use lib.ListN.{length, replicate}
 use Rattle.laws.specs.Ranges.{fold}
-use Rattle.curves.specs.Pairs.{Pair, horizon, ceiling, least}
+use Rattle.curves.specs.Pairs.{Pair, horizon, upperAt, lowerAt}
 use Rattle.curves.specs.Questions.{answerTo}
 use Rattle.bounds.specs.Bounds.{pairQuestions}
 use Rattle.csv.specs.Text.{Bytes, comma, crlf, header}
@@ -16,11 +16,11 @@ line w l m = decimal w ++ (comma ∷ []) ++ decimal l ++ (comma ∷ []) ++ decim
 
 -- The text of a pair: the header line, and a record for each window 1 to H.
 unfoldable pub textOf : Pair → Bytes
-textOf p = fold _++_ (header ++ crlf) (λ d. line d (least p d) (ceiling p d)) (horizon p)
+textOf p = fold _++_ (header ++ crlf) (λ d. line d (lowerAt p d) (upperAt p d)) (horizon p)
 
 -- The line that tells a refusal: `refused `, its number, CR LF.
-unfoldable pub refusal : ℕ → Bytes
-refusal n = (114 ∷ 101 ∷ 102 ∷ 117 ∷ 115 ∷ 101 ∷ 100 ∷ 32 ∷ []) ++ decimal n ++ crlf
+unfoldable pub refusalLine : ℕ → Bytes
+refusalLine n = (114 ∷ 101 ∷ 102 ∷ 117 ∷ 115 ∷ 101 ∷ 100 ∷ 32 ∷ []) ++ decimal n ++ crlf
 
 -- ---- the answer
 -- The longest text: that of 256 windows with figures of 8 digits.
@@ -28,11 +28,11 @@ abbrev pub longest : ℕ
 longest = 5_799
 
 -- A text at the beginning of as many bytes, the others 0.
-abbrev pub padded : Bytes → Bytes
-padded t = t ++ replicate (longest - length t) 0
+abbrev pub paddedText : Bytes → Bytes
+paddedText t = t ++ replicate (longest - length t) 0
 
 -- What rendering answers.
-pub record Answer : Type 0 where
+pub record RenderingAnswer : Type 0 where
   -- The number of the refusal; 0 where there is none.
   pub number : ℕ
   -- How many bytes the text has, and the text, padded.
@@ -40,13 +40,13 @@ pub record Answer : Type 0 where
   pub bytes : Bytes
 
 -- A refusal: its number, nothing else.
-abbrev pub refused : ℕ → Answer
-refused n = record { number = n; length = 0; bytes = padded [] }
+abbrev pub refusedRendering : ℕ → RenderingAnswer
+refusedRendering n = record { number = n; length = 0; bytes = paddedText [] }
 
 -- A text.
-abbrev pub written : Bytes → Answer
-written t = record { number = 0; length = length t; bytes = padded t }
+abbrev pub written : Bytes → RenderingAnswer
+written t = record { number = 0; length = length t; bytes = paddedText t }
 
 -- Rendering the pair p: questions 1, 2 and 4, as for every operation on a pair, and then its text.
-unfoldable pub rendering : Pair → Answer
-rendering p = answerTo (pairQuestions p) (λ _. written (textOf p)) refused
+unfoldable pub rendering : Pair → RenderingAnswer
+rendering p = answerTo (pairQuestions p) (λ _. written (textOf p)) refusedRendering

@@ -6,11 +6,11 @@ use lib.ListN.{length}
 use Rattle.curves.specs.Pairs.{Pair}
 use Rattle.curves.specs.Questions.{AllYes, FirstNo}
 use Rattle.bounds.specs.Bounds.{pairQuestions}
-use Rattle.rendering.specs.Rendering.{longest, textOf, refusal, refused, rendering}
+use Rattle.rendering.specs.Rendering.{longest, textOf, refusalLine, refusedRendering, rendering}
 
 -- Refused with n exactly when question n is the first that is answered no; else a text is written.
-abbrev pub RefusedIffFirstNo : Type 0
-RefusedIffFirstNo = (p : Pair) (n : ℕ) → ((1 ≤ n) × (rendering p ≡ refused n)) ↔ FirstNo (pairQuestions p) n
+abbrev pub RenderingRefused : Type 0
+RenderingRefused = (p : Pair) (n : ℕ) → ((1 ≤ n) × (rendering p ≡ refusedRendering n)) ↔ FirstNo (pairQuestions p) n
 
 abbrev pub WrittenIffAllYes : Type 0
 WrittenIffAllYes = (p : Pair) → (rendering p .number ≡ 0) ↔ AllYes (pairQuestions p)
@@ -20,4 +20,4 @@ abbrev pub TextFits : Type 0
 TextFits = (p : Pair) → AllYes (pairQuestions p) → length (textOf p) ≤ longest
 
 abbrev pub RefusalFits : Type 0
-RefusalFits = (n : ℕ) → n ≤ 4_294_967_295 → length (refusal n) ≤ longest
+RefusalFits = (n : ℕ) → n ≤ 4_294_967_295 → length (refusalLine n) ≤ longest

@@ -11,8 +11,8 @@ ghost use Rattle.laws.specs.Writing.{Wrote};
 ghost use Rattle.curves.specs.Pairs.{pairOf};
 ghost use Rattle.curves.specs.Questions.{AllYes};
 ghost use Rattle.bounds.specs.Bounds.{pairQuestions};
-ghost use Rattle.rendering.specs.Rendering.{longest, padded, textOf, refusal, written, rendering};
-ghost use Rattle.rendering.specs.Answers.{answer};
+ghost use Rattle.rendering.specs.Rendering.{longest, paddedText, textOf, refusalLine, written, rendering};
+ghost use Rattle.rendering.specs.Answers.{renderingAnswer};
 
 // The longest text.
 const LONGEST: usize = 5_799;
@@ -37,7 +37,7 @@ pub struct Rendered {
 
 // The text of the pair of `ceilings` and `leasts`, entry 0 for the window of one tick.
 pub fn render(ceilings: &[u32], leasts: &[u32]) -> Rendered
-    ensures { λ r. ⌜ answer r ≡ rendering (pairOf (now (ceilings .entry)) (now (leasts .entry))) ⌝ }
+    ensures { λ r. ⌜ renderingAnswer r ≡ rendering (pairOf (now (ceilings .entry)) (now (leasts .entry))) ⌝ }
 {
     match bounds::ask(ceilings, leasts) {
         Asked::Passes => written(ceilings, leasts),
@@ -50,7 +50,7 @@ pub fn render(ceilings: &[u32], leasts: &[u32]) -> Rendered
 // The text of a pair that passes the questions.
 fn written(ceilings: &[u32], leasts: &[u32]) -> Rendered
     requires { ⌜ AllYes (pairQuestions (pairOf (now ceilings) (now leasts))) ⌝ }
-    ensures { λ r. ⌜ answer r ≡ written (textOf (pairOf (now (ceilings .entry)) (now (leasts .entry)))) ⌝ }
+    ensures { λ r. ⌜ renderingAnswer r ≡ written (textOf (pairOf (now (ceilings .entry)) (now (leasts .entry)))) ⌝ }
 {
     let mut bytes = blank();
     let length = write_pair(ceilings, leasts, &mut bytes);
@@ -63,7 +63,7 @@ fn written(ceilings: &[u32], leasts: &[u32]) -> Rendered
 
 // The line that tells a refusal with this number, whichever operation gave it.
 pub fn render_refusal(number: u32) -> Rendered
-    ensures { λ r. ⌜ answer r ≡ written (refusal number) ⌝ }
+    ensures { λ r. ⌜ renderingAnswer r ≡ written (refusalLine number) ⌝ }
 {
     let mut bytes = blank();
     let length = write::refusal(number, &mut bytes);
@@ -76,7 +76,7 @@ pub fn render_refusal(number: u32) -> Rendered
 
 // A pair that is refused: no text.
 fn refused(case: Rendering) -> Rendered
-    ensures { λ r. ⌜ (r .answer ≡ case) × (r .length ≡ 0) × (r .bytes ≡ padded []) ⌝ }
+    ensures { λ r. ⌜ (r .answer ≡ case) × (r .length ≡ 0) × (r .bytes ≡ paddedText []) ⌝ }
 {
     let bytes = blank();
     Rendered {
@@ -88,7 +88,7 @@ fn refused(case: Rendering) -> Rendered
 
 // Room for the longest text.
 fn blank() -> [u8; LONGEST]
-    ensures { λ r. ⌜ r ≡ padded [] ⌝ }
+    ensures { λ r. ⌜ r ≡ paddedText [] ⌝ }
 {
     [0; LONGEST]
 }

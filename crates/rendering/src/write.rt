@@ -5,7 +5,7 @@ ghost use mathlib.Core.List.{[], _∷_};
 ghost use lib.ListN.{length};
 ghost use Rattle.laws.specs.Writing.{Wrote};
 ghost use Rattle.csv.specs.Numbers.{decimal};
-ghost use Rattle.rendering.specs.Rendering.{line, refusal};
+ghost use Rattle.rendering.specs.Rendering.{line, refusalLine};
 ghost use Rattle.rendering.specs.Steps.{lineLength};
 
 // A record: three numbers between commas, ended by CR LF.
@@ -24,7 +24,7 @@ pub(crate) fn record(window: u32, least: u32, most: u32, out: &mut [u8], at: usi
 // The line that tells a refusal.
 pub(crate) fn refusal(n: u32, out: &mut [u8]) -> usize
     requires { ⌜ 10 + length (decimal n) ≤ length (now out) ⌝ }
-    ensures { λ r. ⌜ Wrote (now (out .entry)) 0 (refusal n) (now (out .exit)) r ⌝ }
+    ensures { λ r. ⌜ Wrote (now (out .entry)) 0 (refusalLine n) (now (out .exit)) r ⌝ }
 {
     let after_word = bytes(b"refused ", out, 0);
     let after_number = number(n, out, after_word);

@@ -5,29 +5,29 @@ use Rattle.curves.specs.Questions.{ask}
 use Rattle.bounds.specs.Bounds.{maxHorizon}
 use Rattle.closure.specs.Closing.{closing}
 use Rattle.csv.specs.Text.{Bytes}
-use Rattle.constraints.specs.Reading.{later, constraints, questions, reading}
+use Rattle.constraints.specs.Reading.{later, constraints, readingQuestions, reading}
 use Rattle.constraints.proofs.Named.{in-range, largest-bound}
 use Rattle.constraints.proofs.Said.{refused-is, pair-iff-all-yes, gives-asked, given-is-text-pair}
 use Rattle.rendering.specs.declared.Rendered.{Rendered}
-use Rattle.rendering.specs.Rendering.{refusal, textOf, written, rendering}
-use Rattle.rendering.specs.Answers.{answer, numberOf}
+use Rattle.rendering.specs.Rendering.{refusalLine, textOf, written, rendering}
+use Rattle.rendering.specs.Answers.{renderingAnswer, renderingNumber}
 use Rattle.rendering.proofs.Said.{written-is, written-iff-all-yes}
 use Rattle.report.specs.declared.Output.{Output}
-use Rattle.report.specs.Report.{blank, afterRendering, afterClosing, reported}
+use Rattle.report.specs.Report.{zeroLists, afterRendering, afterClosing, reported}
 use Rattle.report.proofs.Said.{refuses, goes-on, rendered-is}
 
 -- The output for an answer with the number n, which was told as m: its line, or what the next step leads to.
 module _ (n m : ℕ) (x : Bytes) (o : Output) (e : m ≡ n) where
-  pub line-told : 0 < m → o ≡ reported (refusal m) → o ≡ reported (cond (eqb n 0) x (refusal n))
-  line-told h is = is ∙ ap (λ k. reported (refusal k)) e ∙ ap reported (sym (refuses n x (refusal n) (omega arith)))
+  pub line-told : 0 < m → o ≡ reported (refusalLine m) → o ≡ reported (cond (eqb n 0) x (refusalLine n))
+  line-told h is = is ∙ ap (λ k. reported (refusalLine k)) e ∙ ap reported (sym (refuses n x (refusalLine n) (omega arith)))
 
-  pub next-told : m ≤ 0 → o ≡ reported x → o ≡ reported (cond (eqb n 0) x (refusal n))
-  next-told h is = is ∙ ap reported (sym (goes-on n x (refusal n) (omega arith)))
+  pub next-told : m ≤ 0 → o ≡ reported x → o ≡ reported (cond (eqb n 0) x (refusalLine n))
+  next-told h is = is ∙ ap reported (sym (goes-on n x (refusalLine n) (omega arith)))
 
 -- The report for an answer into lists that were found blank.
 pub into-blank : {A : Type 0} (f : Pair → A) (g : A → Output) (us ls : List ℕ) (a : A) (o : Output)
-    → us ≡ replicate maxHorizon 0 → ls ≡ replicate maxHorizon 0 → a ≡ f (pairOf us ls) → o ≡ g a → o ≡ g (f blank)
-unfolding blank
+    → us ≡ replicate maxHorizon 0 → ls ≡ replicate maxHorizon 0 → a ≡ f (pairOf us ls) → o ≡ g a → o ≡ g (f zeroLists)
+unfolding zeroLists
 into-blank f g us ls a o u l e is = is ∙ ap g (e ∙ (λ i. f (pairOf (u i) (l i))))
 
 -- ---- reading
@@ -40,24 +40,24 @@ read-within t found h e =
     let bound = largest-bound (constraints t) (in-range [] (later t) (gives-asked t found g .0)) in
     omega (arith, given-is-text-pair t found g .0, bound))
     (λ f. omega (arith, ap (λ a. a .horizon) (refused-is t found (f .0) (f .1))))
-    (ask (questions t found))
+    (ask (readingQuestions t found))
 
 -- The pair that was read is closed, up to a horizon that was told as h.
 pub pair-told : (us ls : List ℕ) (h k : ℕ) (o : Output) → h ≡ k → h ≤ length us
-    → o ≡ reported (afterClosing (length (take h us)) (closing (pairOf (take h us) (take h ls)) blank))
-    → o ≡ reported (afterClosing k (closing (first k (pairOf us ls)) blank))
+    → o ≡ reported (afterClosing (length (take h us)) (closing (pairOf (take h us) (take h ls)) zeroLists))
+    → o ≡ reported (afterClosing k (closing (first k (pairOf us ls)) zeroLists))
 pair-told us ls h k o e l is =
     is
-    ∙ ap (λ n. reported (afterClosing n (closing (first h (pairOf us ls)) blank))) (length-take-le h us l)
-    ∙ ap (λ n. reported (afterClosing n (closing (first n (pairOf us ls)) blank))) e
+    ∙ ap (λ n. reported (afterClosing n (closing (first h (pairOf us ls)) zeroLists))) (length-take-le h us l)
+    ∙ ap (λ n. reported (afterClosing n (closing (first n (pairOf us ls)) zeroLists))) e
 
 -- ---- rendering
 module _ (r : Rendered) (o : Output) (shown : (o .length ≡ r .length) × (o .bytes ≡ r .bytes)) where
-  pub text-shown : (t : Bytes) → answer r ≡ written t → o ≡ reported t
+  pub text-shown : (t : Bytes) → renderingAnswer r ≡ written t → o ≡ reported t
   text-shown t e =
       λ i. record { length = (shown .0 ∙ ap (λ a. a .length) e) i; bytes = (shown .1 ∙ ap (λ a. a .bytes) e) i }
 
-  pub pair-shown : (p : Pair) → answer r ≡ rendering p → numberOf (r .answer) ≡ 0 → o ≡ reported (afterRendering (rendering p))
+  pub pair-shown : (p : Pair) → renderingAnswer r ≡ rendering p → renderingNumber (r .answer) ≡ 0 → o ≡ reported (afterRendering (rendering p))
   pair-shown p e z =
       let ok = written-iff-all-yes p .0 (ap (λ a. a .number) (sym e) ∙ z) in
       text-shown (textOf p) (e ∙ written-is p ok) ∙ ap reported (sym (rendered-is p ok))

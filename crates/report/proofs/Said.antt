@@ -6,7 +6,7 @@ use Rattle.laws.specs.Ranges.{fold}
 use Rattle.laws.specs.Tests.{Each}
 use Rattle.laws.proofs.Table.{length-table}
 use Rattle.curves.specs.Streams.{Stream}
-use Rattle.curves.specs.Pairs.{Pair, horizon, ceiling, least}
+use Rattle.curves.specs.Pairs.{Pair, horizon, upperAt, lowerAt}
 use Rattle.curves.specs.Questions.{AllYes, FirstNo, ask}
 use Rattle.curves.proofs.Asked.{no-parts}
 use Rattle.bounds.specs.Bounds.{maxHorizon, pairQuestions}
@@ -21,13 +21,13 @@ use Rattle.constraints.proofs.Named.{in-range, largest-bound}
 use Rattle.constraints.specs.Reading as constraints
 use Rattle.constraints.specs.Theorems.{GivesPair}
 use Rattle.constraints.proofs.Said as read
-use Rattle.constraints.proofs.Streams.{given-passes, satisfies-iff-conforms}
+use Rattle.constraints.proofs.Streams.{text-pair-passes, satisfies-iff-conforms}
 use Rattle.rendering.specs.Rendering as rendering
 use Rattle.rendering.proofs.Said as rendered
 use Rattle.report.specs.declared.Output.{Output}
-use Rattle.rendering.specs.Rendering.{refusal}
-use Rattle.report.specs.Report.{blank, afterRendering, afterClosing, afterReading, output, reported}
-use Rattle.report.specs.Theorems.{pairIn, OutputIs, RefusedIffNoStream, OutputFits}
+use Rattle.rendering.specs.Rendering.{refusalLine}
+use Rattle.report.specs.Report.{zeroLists, afterRendering, afterClosing, afterReading, output, reported}
+use Rattle.report.specs.Theorems.{pairIn, OutputIs, OutputRefusedIffNoStream, OutputFits}
 
 -- ---- a step's answer
 -- A refusal's number decides, and so does 0.
@@ -42,21 +42,21 @@ goes-on n x y e = ap (λ (b : Bool). cond b x y) (eq-eqb n 0 e)
 pub rendered-is : (p : Pair) → AllYes (pairQuestions p) → afterRendering (rendering.rendering p) ≡ rendering.textOf p
 rendered-is p ok = ap afterRendering (rendered.written-is p ok) ∙ take-append-seam (rendering.textOf p) _
 
-pub blank-lengths : (length (blank .upper) ≡ maxHorizon) × (length (blank .lower) ≡ maxHorizon)
-unfolding blank
+pub blank-lengths : (length (zeroLists .upper) ≡ maxHorizon) × (length (zeroLists .lower) ≡ maxHorizon)
+unfolding zeroLists
 blank-lengths = (length-replicate {A = ℕ} maxHorizon 0, length-replicate {A = ℕ} maxHorizon 0)
 
 module _ (p : Pair) where
-  passes : AllYes (pairQuestions p) → closing.PassesFour p blank
+  passes : AllYes (pairQuestions p) → closing.PassesFour p zeroLists
   passes ok =
       (ok .0, (ok .1 .0, ((omega (arith, ok .0 .1, blank-lengths .0), omega (arith, ok .0 .1, blank-lengths .1)), (ok .1 .1 .0, tt))))
 
-  closed-output : closing.GivesClosure p blank
-      → afterClosing (horizon p) (closure.closing p blank) ≡ rendering.textOf (closing.closureOf p blank)
+  closed-output : closing.GivesClosure p zeroLists
+      → afterClosing (horizon p) (closure.closing p zeroLists) ≡ rendering.textOf (closing.closureOf p zeroLists)
   closed-output g =
-      goes-on (closure.closing p blank .number) _ _ g ∙ rendered-is (closing.closureOf p blank) (promised.given-passes p blank g)
+      goes-on (closure.closing p zeroLists .number) _ _ g ∙ rendered-is (closing.closureOf p zeroLists) (promised.closure-passes p zeroLists g)
 
-  refused-output : closure.closing p blank ≡ closure.refused 5 blank → afterClosing (horizon p) (closure.closing p blank) ≡ refusal 5
+  refused-output : closure.closing p zeroLists ≡ closure.refusedClosing 5 zeroLists → afterClosing (horizon p) (closure.closing p zeroLists) ≡ refusalLine 5
   refused-output e = ap (afterClosing (horizon p)) e
 
 -- ---- reading
@@ -78,7 +78,7 @@ record-number earlier (r ∷ rs) n f =
 
 module _ (t : Bytes) where
   -- The lists are long enough for every text, so that 11 is not given.
-  number-within : (n : ℕ) → FirstNo (constraints.questions t blank) n → (6 ≤ n) × (n ≤ 10)
+  number-within : (n : ℕ) → FirstNo (constraints.readingQuestions t zeroLists) n → (6 ≤ n) × (n ≤ 10)
   number-within n f =
       ⊎-elim
       (λ h. (omega (arith, h .0), omega (arith, h .0)))
@@ -88,45 +88,45 @@ module _ (t : Bytes) where
       (no-parts (constraints.recordQuestions [] (constraints.later t)) _ n (h .1)))
       f
     where
-      long-enough : AllYes (constraints.recordQuestions [] (constraints.later t)) → FirstNo (constraints.question11 t blank ∷ []) n → ⊥
+      long-enough : AllYes (constraints.recordQuestions [] (constraints.later t)) → FirstNo (constraints.question11 t zeroLists ∷ []) n → ⊥
       long-enough ys no₁₁ =
           let h = largest-bound (constraints.constraints t) (in-range [] (constraints.later t) ys) in
           ⊎-elim (λ k. k .1 (omega (arith, h, blank-lengths .0), omega (arith, h, blank-lengths .1))) (λ k. k .1) no₁₁
 
-  unread-output : (n : ℕ) → FirstNo (constraints.questions t blank) n → output t ≡ refusal n
+  unread-output : (n : ℕ) → FirstNo (constraints.readingQuestions t zeroLists) n → output t ≡ refusalLine n
   unfolding output
-  unread-output n f = ap afterReading (read.refused-is t blank n f) ∙ refuses n _ _ (omega (arith, number-within n f .0))
+  unread-output n f = ap afterReading (read.refused-is t zeroLists n f) ∙ refuses n _ _ (omega (arith, number-within n f .0))
 
-  module _ (g : GivesPair t blank) where
+  module _ (g : GivesPair t zeroLists) where
     passes-pair : AllYes (pairQuestions (pairIn t))
-    passes-pair = given-passes t blank g
+    passes-pair = text-pair-passes t zeroLists g
 
-    read-horizon : constraints.reading t blank .horizon ≡ horizon (pairIn t)
+    read-horizon : constraints.reading t zeroLists .horizon ≡ horizon (pairIn t)
     read-horizon =
-        let e = read.given-is-text-pair t blank g in
+        let e = read.given-is-text-pair t zeroLists g in
         e .0 ∙ sym (ap horizon (e .1) ∙ length-table _ (constraints.horizonOf t))
 
-    read-output : output t ≡ afterClosing (horizon (pairIn t)) (closure.closing (pairIn t) blank)
+    read-output : output t ≡ afterClosing (horizon (pairIn t)) (closure.closing (pairIn t) zeroLists)
     unfolding output
     read-output =
-        goes-on (constraints.reading t blank .number) _ _ g
-        ∙ ap (λ h. afterClosing h (closure.closing (pairIn t) blank)) read-horizon
+        goes-on (constraints.reading t zeroLists .number) _ _ g
+        ∙ ap (λ h. afterClosing h (closure.closing (pairIn t) zeroLists)) read-horizon
 
-    closes : (closure.closing (pairIn t) blank ≡ closure.refused 5 blank) ⊎ closing.GivesClosure (pairIn t) blank
-    closes = given.else-closed (pairIn t) blank (passes (pairIn t) passes-pair)
+    closes : (closure.closing (pairIn t) zeroLists ≡ closure.refusedClosing 5 zeroLists) ⊎ closing.GivesClosure (pairIn t) zeroLists
+    closes = given.else-closed (pairIn t) zeroLists (passes (pairIn t) passes-pair)
 
 -- ---- the statements
 pub output-is : OutputIs
 output-is t =
     ⊎-elim
     (λ ys.
-    let g = read.pair-iff-all-yes t blank .1 ys in
+    let g = read.pair-iff-all-yes t zeroLists .1 ys in
     ⊎-elim
     (λ e. inr (inl (g, read-output t g ∙ refused-output (pairIn t) e)))
     (λ c. inl (g, c, read-output t g ∙ closed-output (pairIn t) c))
     (closes t g))
     (λ f. inr (inr (f .0, number-within t (f .0) (f .1) .0, number-within t (f .0) (f .1) .1, f .1, unread-output t (f .0) (f .1))))
-    (ask (constraints.questions t blank))
+    (ask (constraints.readingQuestions t zeroLists))
 
 -- A text of curves begins with `w`, a refusal with `r`.
 text-begins : (p : Pair) → getD (rendering.textOf p) 0 0 ≡ 119
@@ -134,7 +134,7 @@ unfolding rendering.textOf fold
 text-begins p = go (horizon p) .1
   where
     lines : ℕ → Bytes
-    lines d = rendering.line d (least p d) (ceiling p d)
+    lines d = rendering.line d (lowerAt p d) (upperAt p d)
 
     go : (n : ℕ) → (1 ≤ length (fold _++_ (header ++ crlf) lines n)) × (getD (fold _++_ (header ++ crlf) lines n) 0 0 ≡ 119)
     go zero = (omega arith, refl)
@@ -143,42 +143,42 @@ text-begins p = go (horizon p) .1
         let (some, w) = go n in
         (omega (arith, length-append t (lines (suc n)), some), List·getD-append t (lines (suc n)) 0 0 some ∙ w)
 
-refusal-begins : (n : ℕ) → getD (refusal n) 0 0 ≡ 114
-unfolding refusal
+refusal-begins : (n : ℕ) → getD (refusalLine n) 0 0 ≡ 114
+unfolding refusalLine
 refusal-begins n = refl
 
-pub refused-iff-no-stream : RefusedIffNoStream
-refused-iff-no-stream t g = (there, back)
+pub output-refused-iff-no-stream : OutputRefusedIffNoStream
+output-refused-iff-no-stream t g = (there, back)
   where
     -- Closing the text's pair is refused exactly where no stream satisfies the constraints.
-    there : output t ≡ refusal 5 → (s : Stream) → Each (Satisfies (s .counts)) (constraints.constraints t) → ⊥
+    there : output t ≡ refusalLine 5 → (s : Stream) → Each (Satisfies (s .counts)) (constraints.constraints t) → ⊥
     there e s ks =
         ⊎-elim
         (λ r.
-        given.refused-iff-no-stream (pairIn t) blank (passes (pairIn t) (passes-pair t g)) .0 r s
-        (satisfies-iff-conforms t blank g s .0 ks))
+        given.refused-iff-no-stream (pairIn t) zeroLists (passes (pairIn t) (passes-pair t g)) .0 r s
+        (satisfies-iff-conforms t zeroLists g s .0 ks))
         (λ c. let o = sym (read-output t g ∙ closed-output (pairIn t) c) ∙ e in
-        omega (arith, text-begins (closing.closureOf (pairIn t) blank), ap (λ (x : Bytes). getD x 0 0) o, refusal-begins 5))
+        omega (arith, text-begins (closing.closureOf (pairIn t) zeroLists), ap (λ (x : Bytes). getD x 0 0) o, refusal-begins 5))
         (closes t g)
 
-    back : ((s : Stream) → Each (Satisfies (s .counts)) (constraints.constraints t) → ⊥) → output t ≡ refusal 5
+    back : ((s : Stream) → Each (Satisfies (s .counts)) (constraints.constraints t) → ⊥) → output t ≡ refusalLine 5
     back none =
         read-output t g
         ∙ refused-output (pairIn t)
-        (given.refused-iff-no-stream (pairIn t) blank (passes (pairIn t) (passes-pair t g)) .1
-        (λ s h. none s (satisfies-iff-conforms t blank g s .1 h)))
+        (given.refused-iff-no-stream (pairIn t) zeroLists (passes (pairIn t) (passes-pair t g)) .1
+        (λ s h. none s (satisfies-iff-conforms t zeroLists g s .1 h)))
 
 pub output-fits : OutputFits
 output-fits t =
     ⊎-elim
-    (λ c. subst Fits (sym (c .2)) (rendered.text-fits (closing.closureOf (pairIn t) blank) (promised.given-passes (pairIn t) blank (c .1))))
+    (λ c. subst Fits (sym (c .2)) (rendered.text-fits (closing.closureOf (pairIn t) zeroLists) (promised.closure-passes (pairIn t) zeroLists (c .1))))
     (λ r. ⊎-elim (λ h. subst Fits (sym (h .1)) (short 5 (omega arith))) (λ h. subst Fits (sym (h .4)) (short (h .0) (h .2))) r)
     (output-is t)
   where
     Fits : Bytes → Type 0
     Fits o = length o ≤ rendering.longest
 
-    short : (n : ℕ) → n ≤ 10 → Fits (refusal n)
+    short : (n : ℕ) → n ≤ 10 → Fits (refusalLine n)
     short n l = rendered.refusal-fits n (omega arith)
 
 -- The length that `report` gives back is within its bytes, so that the output can be taken as a part of them.

@@ -12,26 +12,26 @@ use Rattle.rendering.specs.Rendering as rendering
 use Rattle.report.specs.declared.Output.{Output}
 
 -- Two lists of the longest horizon, lent for results.
-unfoldable pub blank : Pair
-blank = pairOf (replicate maxHorizon 0) (replicate maxHorizon 0)
+unfoldable pub zeroLists : Pair
+zeroLists = pairOf (replicate maxHorizon 0) (replicate maxHorizon 0)
 
 -- What is written once a step has answered: its refusal, or what the next step leads to.
-abbrev pub afterRendering : rendering.Answer → Bytes
-afterRendering a = cond (eqb (a .number) 0) (take (a .length) (a .bytes)) (rendering.refusal (a .number))
+abbrev pub afterRendering : rendering.RenderingAnswer → Bytes
+afterRendering a = cond (eqb (a .number) 0) (take (a .length) (a .bytes)) (rendering.refusalLine (a .number))
 
-abbrev pub afterClosing : ℕ → closure.Answer → Bytes
-afterClosing h a = cond (eqb (a .number) 0) (afterRendering (rendering.rendering (first h (a .results)))) (rendering.refusal (a .number))
+abbrev pub afterClosing : ℕ → closure.ClosingAnswer → Bytes
+afterClosing h a = cond (eqb (a .number) 0) (afterRendering (rendering.rendering (first h (a .results)))) (rendering.refusalLine (a .number))
 
-abbrev pub afterReading : constraints.Answer → Bytes
+abbrev pub afterReading : constraints.ReadingAnswer → Bytes
 afterReading a =
     cond (eqb (a .number) 0)
-    (afterClosing (a .horizon) (closure.closing (first (a .horizon) (a .results)) blank))
-    (rendering.refusal (a .number))
+    (afterClosing (a .horizon) (closure.closing (first (a .horizon) (a .results)) zeroLists))
+    (rendering.refusalLine (a .number))
 
 -- The output for the text t: reading, closing, rendering.
 unfoldable pub output : Bytes → Bytes
-output t = afterReading (constraints.reading t blank)
+output t = afterReading (constraints.reading t zeroLists)
 
 -- The same as `report` gives it back: the bytes, padded, and their number.
 abbrev pub reported : Bytes → Output
-reported o = record { length = length o; bytes = rendering.padded o }
+reported o = record { length = length o; bytes = rendering.paddedText o }

@@ -10,28 +10,28 @@ use Rattle.curves.specs.Questions.{FirstNo}
 use Rattle.closure.specs.Theorems.{GivesClosure, closureOf}
 use Rattle.csv.specs.Text.{Bytes}
 use Rattle.constraints.specs.Constraints.{Satisfies}
-use Rattle.constraints.specs.Reading.{constraints, questions}
+use Rattle.constraints.specs.Reading.{constraints, readingQuestions}
 use Rattle.constraints.specs.Theorems.{GivesPair, givenPair}
-use Rattle.rendering.specs.Rendering.{longest, textOf, refusal}
-use Rattle.report.specs.Report.{blank, output}
+use Rattle.rendering.specs.Rendering.{longest, textOf, refusalLine}
+use Rattle.report.specs.Report.{zeroLists, output}
 
 -- The pair that reading the text gives.
 abbrev pub pairIn : Bytes → Pair
-pairIn t = givenPair t blank
+pairIn t = givenPair t zeroLists
 
 -- The output is the closed curves of the text's pair; or a refusal with 5 of a text that reads well; or with 6 to 10, by reading's
 -- questions. Any other refusal is not given.
 abbrev pub OutputIs : Type 0
 OutputIs =
     (t : Bytes)
-    → (GivesPair t blank × GivesClosure (pairIn t) blank × (output t ≡ textOf (closureOf (pairIn t) blank)))
-    ⊎ (GivesPair t blank × (output t ≡ refusal 5))
-    ⊎ ((n : ℕ) × (6 ≤ n) × (n ≤ 10) × FirstNo (questions t blank) n × (output t ≡ refusal n))
+    → (GivesPair t zeroLists × GivesClosure (pairIn t) zeroLists × (output t ≡ textOf (closureOf (pairIn t) zeroLists)))
+    ⊎ (GivesPair t zeroLists × (output t ≡ refusalLine 5))
+    ⊎ ((n : ℕ) × (6 ≤ n) × (n ≤ 10) × FirstNo (readingQuestions t zeroLists) n × (output t ≡ refusalLine n))
 
 -- 5 exactly where no unbounded stream satisfies the constraints of the text.
-abbrev pub RefusedIffNoStream : Type 0
-RefusedIffNoStream =
-    (t : Bytes) → GivesPair t blank → (output t ≡ refusal 5) ↔ ((s : Stream) → Each (Satisfies (s .counts)) (constraints t) → ⊥)
+abbrev pub OutputRefusedIffNoStream : Type 0
+OutputRefusedIffNoStream =
+    (t : Bytes) → GivesPair t zeroLists → (output t ≡ refusalLine 5) ↔ ((s : Stream) → Each (Satisfies (s .counts)) (constraints t) → ⊥)
 
 -- The output fits into what `report` gives back.
 abbrev pub OutputFits : Type 0

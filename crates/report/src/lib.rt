@@ -11,11 +11,11 @@ ghost use Rattle.curves.specs.Pairs.{pairOf};
 ghost use Rattle.bounds.specs.Bounds.{maxHorizon};
 ghost use Rattle.closure.specs.Closing.{closing};
 ghost use Rattle.closure.specs.Answers as closure;
-ghost use Rattle.constraints.specs.Answers.{horizonIn};
+ghost use Rattle.constraints.specs.Answers.{readingHorizon};
 ghost use Rattle.constraints.specs.Answers as constraints;
-ghost use Rattle.rendering.specs.Rendering.{refusal, rendering};
-ghost use Rattle.rendering.specs.Answers.{numberOf};
-ghost use Rattle.report.specs.Report.{blank, afterRendering, afterClosing, afterReading, output, reported};
+ghost use Rattle.rendering.specs.Rendering.{refusalLine, rendering};
+ghost use Rattle.rendering.specs.Answers.{renderingNumber};
+ghost use Rattle.report.specs.Report.{zeroLists, afterRendering, afterClosing, afterReading, output, reported};
 
 // The longest horizon, and the longest output.
 const MAX_HORIZON: usize = 256;
@@ -41,8 +41,8 @@ pub fn report(text: &[u8]) -> Output
 // What follows once the text is read.
 fn report_reading(reading: Reading, ceilings: &[u32], leasts: &[u32]) -> Output
     requires { ⌜ (length (now ceilings) ≡ maxHorizon) × (length (now leasts) ≡ maxHorizon) ⌝ }
-    requires { ⌜ horizonIn reading ≤ maxHorizon ⌝ }
-    ensures { λ r. ⌜ r ≡ reported (afterReading (constraints.answer reading (pairOf (now (ceilings .entry)) (now (leasts .entry))))) ⌝ }
+    requires { ⌜ readingHorizon reading ≤ maxHorizon ⌝ }
+    ensures { λ r. ⌜ r ≡ reported (afterReading (constraints.readingAnswer reading (pairOf (now (ceilings .entry)) (now (leasts .entry))))) ⌝ }
 {
     let number = reading_number(reading);
     if 0 < number {
@@ -56,7 +56,7 @@ fn report_reading(reading: Reading, ceilings: &[u32], leasts: &[u32]) -> Output
 fn report_pair(ceilings: &[u32], leasts: &[u32]) -> Output
     requires { ⌜ length (now ceilings) ≤ maxHorizon ⌝ }
     ensures { λ r. ⌜ r ≡ reported (afterClosing (length (now (ceilings .entry)))
-        (closing (pairOf (now (ceilings .entry)) (now (leasts .entry))) blank)) ⌝ }
+        (closing (pairOf (now (ceilings .entry)) (now (leasts .entry))) zeroLists)) ⌝ }
 {
     let mut upper = zeros();
     let mut lower = zeros();
@@ -67,7 +67,7 @@ fn report_pair(ceilings: &[u32], leasts: &[u32]) -> Output
 // What follows once the pair is closed.
 fn report_closing(closing: Closing, horizon: usize, upper: &[u32], lower: &[u32]) -> Output
     requires { ⌜ (horizon ≤ length (now upper)) × (horizon ≤ length (now lower)) ⌝ }
-    ensures { λ r. ⌜ r ≡ reported (afterClosing horizon (closure.answer closing (pairOf (now (upper .entry)) (now (lower .entry))))) ⌝ }
+    ensures { λ r. ⌜ r ≡ reported (afterClosing horizon (closure.closingAnswer closing (pairOf (now (upper .entry)) (now (lower .entry))))) ⌝ }
 {
     let number = closing_number(closing);
     if 0 < number {
@@ -91,7 +91,7 @@ fn report_closure(upper: &[u32], lower: &[u32]) -> Output
 
 // The line of a refusal.
 fn refused(number: u32) -> Output
-    ensures { λ r. ⌜ r ≡ reported (refusal number) ⌝ }
+    ensures { λ r. ⌜ r ≡ reported (refusalLine number) ⌝ }
 {
     shown(rendering::render_refusal(number))
 }
@@ -107,7 +107,7 @@ fn shown(rendered: Rendered) -> Output
 
 // The number of a refusal, and 0 for a result: of reading, and with it the horizon; of closing; of rendering.
 fn reading_number(reading: Reading) -> u32
-    ensures { λ r. ⌜ r ≡ constraints.numberOf reading ⌝ }
+    ensures { λ r. ⌜ r ≡ constraints.readingNumber reading ⌝ }
 {
     match reading {
         Reading::Read { horizon: _ } => 0,
@@ -121,7 +121,7 @@ fn reading_number(reading: Reading) -> u32
 }
 
 fn reading_horizon(reading: Reading) -> usize
-    ensures { λ r. ⌜ r ≡ horizonIn reading ⌝ }
+    ensures { λ r. ⌜ r ≡ readingHorizon reading ⌝ }
 {
     match reading {
         Reading::Read { horizon } => horizon,
@@ -135,7 +135,7 @@ fn reading_horizon(reading: Reading) -> usize
 }
 
 fn closing_number(closing: Closing) -> u32
-    ensures { λ r. ⌜ r ≡ closure.numberOf closing ⌝ }
+    ensures { λ r. ⌜ r ≡ closure.closingNumber closing ⌝ }
 {
     match closing {
         Closing::Closed { rounds: _ } => 0,
@@ -148,7 +148,7 @@ fn closing_number(closing: Closing) -> u32
 }
 
 fn rendering_number(answer: Rendering) -> u32
-    ensures { λ r. ⌜ r ≡ numberOf answer ⌝ }
+    ensures { λ r. ⌜ r ≡ renderingNumber answer ⌝ }
 {
     match answer {
         Rendering::Written => 0,

@@ -17,20 +17,20 @@ use Rattle.monitor.specs.declared.Verdict.the-variants.{Passed, TooMany, TooFew
 use Rattle.monitor.specs.Monitoring.{MonitorView, monitorView, judged, judging}
 use Rattle.monitor.specs.Answers.{verdictReply}
 use Rattle.monitor.proofs.Said.{judging-bad, judging-failed, ruling-right}
-use Rattle.scripts.specs.Codes.{numberOf}
+use Rattle.scripts.specs.Codes.{replyNumber}
 use Rattle.scripts.specs.Scripts.{answered, afterOpening}
 use Rattle.scripts.specs.Steps.{NamesWindow}
 
 -- ---- opening
 -- It is not refused, or it has its refusal's number, which is not 0.
 opened-or-not : (k : Opening) → (openingReply k ≡ result tt)
-    ⊎ ((¬ (numberOf (openingReply k) ≡ 0)) × (openingReply k ≡ refusal (numberOf (openingReply k))))
+    ⊎ ((¬ (replyNumber (openingReply k) ≡ 0)) × (openingReply k ≡ refusal (replyNumber (openingReply k))))
 opened-or-not Opened = inl refl
 opened-or-not UpperLength = inr (λ e. omega arith, refl)
 opened-or-not LowerLength = inr (λ e. omega arith, refl)
 opened-or-not FigureLimit = inr (λ e. omega arith, refl)
 
-module _ (o : Opening) (a : Reply (Unit {0})) (told : openingReply o ≡ a) (r : ℕ) (e : r ≡ numberOf (openingReply o)) where
+module _ (o : Opening) (a : Reply (Unit {0})) (told : openingReply o ≡ a) (r : ℕ) (e : r ≡ replyNumber (openingReply o)) where
   -- The state is fresh, and what it answers goes into the script; or the script stays as found.
   pub run-opened : r ≡ 0 → (p : Pair) (h : History) → Begun a p h → (f : View → List ℕ) (found left : List ℕ)
       → left ≡ f (viewOf h) → answered r left ≡ afterOpening a (f (fresh p)) found
@@ -45,7 +45,7 @@ module _ (o : Opening) (a : Reply (Unit {0})) (told : openingReply o ≡ a) (r :
   pub run-refused : ¬ (r ≡ 0) → (answers found left : List ℕ) → left ≡ found → answered r left ≡ afterOpening a answers found
   run-refused n answers found left is =
       ⊎-elim
-      (λ ready. absurd (n (e ∙ ap numberOf ready)))
+      (λ ready. absurd (n (e ∙ ap replyNumber ready)))
       (λ (_, no-one). (λ i. answered (e i) (is i)) ∙ ap (λ k. afterOpening k answers found) (sym no-one ∙ told))
       (opened-or-not o)
 

@@ -5,21 +5,21 @@ use Rattle.curves.specs.Questions.{Reply, result, refusal}
 use Rattle.monitor.specs.Monitoring.{Ruling, judged, alreadyFailed}
 
 -- The number of a refusal; 0 where there is none.
-abbrev pub numberOf : {A : Type 0} → Reply A → ℕ
-numberOf (result a) = 0
-numberOf (refusal n) = n
+abbrev pub replyNumber : {A : Type 0} → Reply A → ℕ
+replyNumber (result a) = 0
+replyNumber (refusal n) = n
 
 -- A refusal as an entry of a script.
-abbrev pub refused : ℕ → ℕ
-refused n = 4_000_000_000 + n
+abbrev pub refusedEntry : ℕ → ℕ
+refusedEntry n = 4_000_000_000 + n
 
 abbrev pub rulingCode : Reply Ruling → ℕ
 rulingCode (result (judged passed)) = 0
 rulingCode (result (judged (tooMany d))) = 1_000 + d
 rulingCode (result (judged (tooFew d))) = 2_000 + d
 rulingCode (result alreadyFailed) = 3_000
-rulingCode (refusal n) = refused n
+rulingCode (refusal n) = refusedEntry n
 
 abbrev pub sendingCode : Reply ℕ → ℕ
 sendingCode (result x) = x
-sendingCode (refusal n) = refused n
+sendingCode (refusal n) = refusedEntry n

@@ -15,7 +15,7 @@ ghost use Rattle.monitor.specs.Answers.{verdictReply};
 ghost use Rattle.monitor.specs.Calls.{rulings};
 ghost use Rattle.generator.specs.Answers.{sendingReply};
 ghost use Rattle.generator.specs.Calls.{sendings};
-ghost use Rattle.scripts.specs.Codes.{numberOf, rulingCode, sendingCode};
+ghost use Rattle.scripts.specs.Codes.{replyNumber, rulingCode, sendingCode};
 ghost use Rattle.scripts.specs.Scripts.{answered, judgedScript, sentScript};
 ghost use Rattle.scripts.specs.Steps.{NamesWindow};
 
@@ -118,7 +118,7 @@ fn sending_code(sending: Sending) -> u32
 
 // The number of a refused opening; 0 where the state is ready.
 fn opening_number(opening: Opening) -> u32
-    ensures { λ r. ⌜ r ≡ numberOf (openingReply opening) ⌝ }
+    ensures { λ r. ⌜ r ≡ replyNumber (openingReply opening) ⌝ }
 {
     match opening {
         Opening::Opened => 0,

@@ -2,29 +2,18 @@
 -- Assumes nothing.
 use Rattle.laws.proofs.Base.{refl, inl, inr, arith, needs}
 use Rattle.laws.proofs.Tests.{told-yes, told-no}
-use Rattle.bounds.specs.Bounds.{Bounded}
 use Rattle.bounds.proofs.ask.Statement.{statement}
 use Rattle.bounds.proofs.ask.Tie as tie
 
 returns-4 : tie.Need-returns-4
 returns-4 c =
     let told = c .before .within-limit in
-    let above : ¬ Bounded _ = told-no _ (told .result) (c .if4 .taken) (told .ensures) in
-    inr ((omega arith, omega arith), inr (omega arith, inl (refl, λ y. above (y .0))))
+    inr ((omega arith, omega arith), inr (omega arith, inl (refl, told-no _ (told .result) (c .if4 .taken) (told .ensures))))
 
 returns-5 : tie.Need-returns-5
 returns-5 c =
-    let told = c .before .within-limit2 in
-    let above : ¬ Bounded _ = told-no _ (told .result) (c .if5 .taken) (told .ensures) in
-    inr ((omega arith, omega arith), inr (omega arith, inl (refl, λ y. above (y .1))))
-
-returns-6 : tie.Need-returns-6
-returns-6 c =
-    let uppers = c .before .before .before .within-limit in
-    let lowers = c .before .within-limit2 in
-    let within-uppers = told-yes _ (uppers .result) (c .before .before .if4 .left) (uppers .ensures) in
-    let within-lowers = told-yes _ (lowers .result) (c .if5 .left) (lowers .ensures) in
-    ((omega arith, omega arith), (omega arith, ((within-uppers, within-lowers), tt)))
+    let told = c .before .within-limit in
+    ((omega arith, omega arith), (omega arith, (told-yes _ (told .result) (c .if4 .left) (told .ensures), tt)))
 
 pub ask-spec : {M : Type 1} → statement M
 ask-spec =
@@ -35,6 +24,4 @@ ask-spec =
     (λ c. inr ((omega arith, omega arith), inl (refl, c .if3 .taken)))
     (λ c κs. search needs)
     returns-4
-    (λ c κs. search needs)
-    returns-5
-    returns-6)
+    returns-5)

@@ -1,51 +1,55 @@
 -- `closure::close` meets its promise: each refusal where its question is the first that is answered no, and else what the rounds end with.
 -- Assumes nothing.
 use Rattle.laws.proofs.Base.{ℕ, _≤_, _≡_, sym, _∙_, List, arith, needs, length, take, length-take-le}
-use lib.Seq.{length-front}
+use Rattle.laws.proofs.Tests.{told-yes, told-no}
 use Rattle.curves.specs.Pairs.{Pair, horizon, pairOf}
 use Rattle.closure.specs.Closing.{question3}
-use Rattle.closure.proofs.Answered.{no-1, no-2, no-3, ended-is}
+use Rattle.closure.specs.Theorems.{PassesFour}
+use Rattle.closure.proofs.Answered.{no-1, no-2, no-3, no-4, fit, ended-is}
 use Rattle.closure.proofs.close.Statement.{statement}
 use Rattle.closure.proofs.close.Tie as tie
 
--- Where questions 1 to 3 are answered yes: the function's start, and how long the parts of the result lists are.
-abbrev start : tie.Else5 → tie.Start
-start e = e .before .before .before .before .before .before .before .before .before
-
 abbrev given : tie.Start → Pair
-given s = pairOf (s .args .ceilings .now) (s .args .leasts .now)
+given s = pairOf (s .args .upper .now) (s .args .lower .now)
 
 abbrev found : tie.Start → Pair
-found s = pairOf (s .args .upper .now) (s .args .lower .now)
+found s = pairOf (s .args .closed-upper .now) (s .args .closed-lower .now)
 
-room : (e : tie.Else5) → question3 (given (start e)) (found (start e)) .asked
+-- The function's start, from where questions 1 to 3 are answered yes, and from where question 4 is too.
+abbrev third : tie.Else5 → tie.Start
+third e = e .before .before .before .before .before .before .before .before .before
+
+room : (e : tie.Else5) → question3 (given (third e)) (found (third e)) .asked
 room e = (omega arith, omega arith)
 
-part : (e : tie.Else5) (xs : List ℕ) → horizon (given (start e)) ≤ length xs
+abbrev start : tie.Else6 → tie.Start
+start e = third (e .before .before)
+
+passes : (e : tie.Else6) → PassesFour (given (start e)) (found (start e))
+passes e =
+    let told = e .before .within-limit in
+    let bounded = told-yes _ (told .result) (e .if6 .left) (told .ensures) in
+    ((omega arith, omega arith), (omega arith, (room (e .before .before), (bounded, tt))))
+
+-- The parts of the result lists that are lent are as long as the pair.
+part : (e : tie.Else6) (xs : List ℕ) → horizon (given (start e)) ≤ length xs
     → horizon (given (start e)) ≡ length (take (horizon (given (start e))) xs)
 part e xs h = sym (length-take-le (horizon (given (start e))) xs h)
 
-same-length : tie.Need-same-length
-same-length c =
-    let k = c .before .before .before .before .before in
-    let s = start (k .before .before .before) in
-    length-front (s .args .upper .now) (k .run .last .1 .1 .0) (horizon (given s)) (k .run .kept .1 .1 .0)
-
-same-length-2 : tie.Need-same-length-2
-same-length-2 c =
-    let k = c .before .before .before .before .before in
-    let s = start (k .before .before .before) in
-    length-front (s .args .lower .now) (k .run .last .1 .1 .1 .0) (horizon (given s)) (k .run .kept .1 .1 .1 .0)
-
 returns-6 : tie.Need-returns-6
 returns-6 c =
-    let k = c .before .before .before .before .before in
-    let e = k .before .before .before in
-    let uppers = k .run .kept .1 .1 .0 ∙ sym (part e _ (room e .0)) in
-    let lowers = k .run .kept .1 .1 .1 .0 ∙ sym (part e _ (room e .1)) in
-    ended-is (given (start e)) (found (start e)) (omega arith, omega arith) (omega arith) (room e)
-    (k .run .last .1 .1 .0) (k .run .last .1 .1 .1 .0) uppers lowers
-    (k .run .result) (c .closing-for .result) (c .closing-for .ensures) (k .run .ensures)
+    let told = c .before .within-limit in
+    no-4 _ _ (omega arith, omega arith) (omega arith) (room (c .before .before)) (told-no _ (told .result) (c .if6 .taken) (told .ensures))
+
+returns-7 : tie.Need-returns-7
+returns-7 c =
+    let ended = c .before .before .before .before in
+    let e = ended .before .before .before in
+    let rest = room (e .before .before) in
+    let uppers = ended .to-end .kept .1 .1 .0 ∙ sym (part e _ (rest .0)) in
+    let lowers = ended .to-end .kept .1 .1 .1 .0 ∙ sym (part e _ (rest .1)) in
+    ended-is (given (start e)) (found (start e)) (passes e) (ended .to-end .last .1 .1 .0) (ended .to-end .last .1 .1 .1 .0) uppers lowers
+    (ended .to-end .result) (ended .to-end .ensures)
 
 pub close-spec : {M : Type 1} → statement M
 close-spec =
@@ -56,12 +60,13 @@ close-spec =
     (λ c. no-2 _ _ (omega arith) (λ y. c .if3 .taken y))
     (λ c. no-3 _ _ (omega arith) (omega arith) (λ y. omega (arith, y, c .if4 .taken)))
     (λ c. no-3 _ _ (omega arith) (omega arith) (λ y. omega (arith, y, c .if5 .taken)))
-    (λ c. search needs)
-    (λ c. part (c .before) _ (room (c .before) .0))
-    (λ c. search needs)
-    (λ c. part (c .before .before) _ (room (c .before .before) .1))
     (λ c κs. search needs)
-    (λ c κs. search needs)
-    same-length
-    same-length-2
-    returns-6)
+    returns-6
+    (λ c. search needs)
+    (λ c. part (c .before) _ (room (c .before .before .before) .0))
+    (λ c. search needs)
+    (λ c. part (c .before .before) _ (room (c .before .before .before .before) .1))
+    (λ c κs. fit _ _ (passes (c .before .before)))
+    (λ c. search needs)
+    (λ c. search needs)
+    returns-7)

@@ -7,7 +7,7 @@ use Rattle.history.proofs.begin.Statement.{statement}
 use Rattle.history.proofs.begin.Tie as tie
 
 abbrev for : tie.Start → Pair
-for s = pairOf (s .args .ceilings .now) (s .args .leasts .now)
+for s = pairOf (s .args .upper .now) (s .args .lower .now)
 
 returns : tie.Need-returns
 returns c =

@@ -1,17 +1,17 @@
 -- `monitor::advance` meets its contract: in each arm the verdict is known.
 -- Assumes nothing.
-use Rattle.laws.proofs.Base.{refl, subst, subst⁻¹, needs}
+use Rattle.laws.proofs.Base.{refl, ap, subst, subst⁻¹, false, needs}
 use Rattle.history.specs.States.{viewOf}
 use Rattle.monitor.specs.declared.Monitor.{Monitor}
 use Rattle.monitor.specs.declared.Verdict.{Verdict}
-use Rattle.monitor.specs.Monitoring.{MonitorNext}
+use Rattle.monitor.specs.Monitoring.{monitorView, MonitorNext}
 use Rattle.monitor.specs.Answers.{verdictReply}
 use Rattle.monitor.specs.Steps.{AddsWhere}
 use Rattle.monitor.proofs.advance.Statement.{statement}
 use Rattle.monitor.proofs.advance.Tie as tie
 
-add-requires : tie.Need-add-requires
-add-requires c κs =
+with-tick-requires : tie.Need-with-tick-requires
+with-tick-requires c κs =
     let s = c .before .before in
     subst (λ v. AddsWhere v (viewOf (s .args .monitor .history))) (c .enum-told .given .1) (s .pre)
 
@@ -22,8 +22,7 @@ For s next v = MonitorNext (verdictReply v) (s .args .monitor) (s .args .count) 
 returns : tie.Need-returns
 returns c =
     let told = c .before in
-    let promised = c .add .ensures in
-    subst⁻¹ (For (told .before .before) _) (told .enum-told .given .1) (λ i. record { view = promised .0 i; failed = promised .1 i })
+    subst⁻¹ (For (told .before .before) _) (told .enum-told .given .1) (ap (λ v. monitorView v false) (c .with-tick .ensures))
 
 returns-2 : tie.Need-returns-2
 returns-2 c = subst⁻¹ (For (c .before .before .before) _) (c .before .enum-told2 .given .1) (c .fail .ensures)
@@ -36,7 +35,7 @@ advance-spec =
     tie.close
     (tie.spec
     (λ c. search needs)
-    add-requires
+    with-tick-requires
     (λ c. search needs)
     (λ c κs. search needs)
     (λ c. search needs)

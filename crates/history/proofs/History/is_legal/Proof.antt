@@ -1,9 +1,9 @@
 -- `history::History::is_legal` meets its promise: each way out answers question 12 by the sizes or by the figures.
 -- Assumes nothing.
 use Rattle.laws.proofs.Base.{_≤_, _≡_, sym, arith, needs, length, length-take-le}
-use Rattle.laws.proofs.Tests.{either-true, either-false, tells-same}
-use Rattle.bounds.specs.Bounds.{maxHorizon, Bounded}
-use Rattle.history.specs.Promises.{Room}
+use Rattle.laws.proofs.Tests.{tells-same}
+use Rattle.bounds.specs.Bounds.{maxHorizon}
+use Rattle.history.specs.Steps.{Room}
 use Rattle.history.proofs.Histories.{legal-room, legal-bounded, bounded-legal}
 use Rattle.history.proofs.History.is_legal.Statement.{statement}
 use Rattle.history.proofs.History.is_legal.Tie as tie
@@ -21,22 +21,13 @@ uppers e = let l : length (start e .args .self .upper) ≡ maxHorizon = search n
 lowers : (e : tie.Else2) → start e .args .self .horizon ≤ length (start e .args .self .lower)
 lowers e = let l : length (start e .args .self .lower) ≡ maxHorizon = search needs in omega arith
 
-slice-aggregate-within-limit-2 : tie.Need-slice-aggregate-within-limit-2
-slice-aggregate-within-limit-2 c = sym (length-take-le _ _ (lowers (c .before .before .before .before .before .before)))
-
 returns-3 : tie.Need-returns-3
 returns-3 c =
-    let e = c .before .before .before .before .before .before .before in
-    let upper = either-true _ _ _ (c .before .before .if3 .taken) (c .before .before .before .within-limit .ensures) in
-    tells-same (c .within-limit2 .result) (
-      (λ lower. bounded-legal _ (uppers e) (lowers e) (room e) (upper, lower)),
-      (λ l. legal-bounded _ (uppers e) (lowers e) l .1),
-    ) (c .within-limit2 .ensures)
-
-returns-4 : tie.Need-returns-4
-returns-4 c l =
     let e = c .before .before .before .before .before in
-    either-false _ (¬ Bounded _) _ (c .if3 .left) (c .before .within-limit .ensures) (legal-bounded _ (uppers e) (lowers e) l .0)
+    tells-same (c .within-limit .result) (
+      bounded-legal _ (uppers e) (lowers e) (room e),
+      legal-bounded _ (uppers e) (lowers e),
+    ) (c .within-limit .ensures)
 
 pub is-legal-spec : {M : Type 1} → statement M
 is-legal-spec =
@@ -46,9 +37,7 @@ is-legal-spec =
     (λ c l. omega (arith, legal-room _ l .fewer, c .if2 .taken))
     (λ c. uppers (c .before .before))
     (λ c. sym (length-take-le _ _ (uppers (c .before .before .before))))
+    (λ c. lowers (c .before .before .before))
+    (λ c. sym (length-take-le _ _ (lowers (c .before .before .before .before))))
     (λ c κs. search needs)
-    (λ c. lowers (c .before .before .before .before .before))
-    slice-aggregate-within-limit-2
-    (λ c κs. search needs)
-    returns-3
-    returns-4)
+    returns-3)

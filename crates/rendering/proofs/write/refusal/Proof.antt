@@ -1,13 +1,13 @@
 -- `rendering::write::refusal` meets its contract: its three parts are written one after the other.
 -- Assumes nothing.
 use borrow.Author.Needs.{needs}
-use Rattle.rendering.specs.Rendering.{refusal}
+use Rattle.rendering.specs.Rendering.{refusalLine}
 use Rattle.laws.proofs.Writing.{wrote-more}
 use Rattle.rendering.proofs.write.refusal.Statement.{statement}
 use Rattle.rendering.proofs.write.refusal.Tie as tie
 
 returns : tie.Need-returns
-unfolding refusal
+unfolding refusalLine
 returns c =
     let end = c .before .before in
     let number = end .before .before .before .before .before in

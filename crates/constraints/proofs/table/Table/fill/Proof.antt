@@ -2,13 +2,13 @@
 -- Assumes nothing.
 use Rattle.laws.proofs.Base.{_+_, _-_, _≤_, _≡_, arith, needs}
 use Rattle.laws.proofs.Table.{Filled, unfilled, stored, filled-front}
-use Rattle.constraints.specs.Steps.{ceilingIn, leastIn}
+use Rattle.constraints.specs.Steps.{upperIn, lowerIn}
 use Rattle.constraints.proofs.table.Table.fill.Statement.{statement}
 use Rattle.constraints.proofs.table.Table.fill.Tie as tie
 
 abbrev Inv-loop : tie.InvT-loop
 Inv-loop horizon upper₀ lower₀ self i₀ upper lower i =
-    (i ≤ horizon) × Filled (ceilingIn self) upper₀ upper i × Filled (leastIn self) lower₀ lower i
+    (i ≤ horizon) × Filled (upperIn self) upper₀ upper i × Filled (lowerIn self) lower₀ lower i
 
 abbrev μ-loop : tie.MeasureT-loop
 μ-loop horizon upper₀ lower₀ self i₀ upper lower i = horizon - i

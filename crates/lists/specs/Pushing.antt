@@ -1,0 +1,19 @@
+-- A count put behind the held entries of a list.
+use Prim.Native.Nat.{ℕ, _-_}
+use mathlib.Core.Path.{_≡_}
+use mathlib.Core.List.{List, [], _∷_, _++_}
+use lib.ListN.{length, take, drop}
+use Rattle.laws.specs.Writing.{over}
+
+-- The first n entries of a list and x behind them.
+abbrev pub behind : List ℕ → ℕ → ℕ → List ℕ
+behind found n x = take n found ++ (x ∷ [])
+
+-- The newest of these, as many as the list has room for: where there are more, the oldest goes.
+abbrev pub heldWith : List ℕ → ℕ → ℕ → List ℕ
+heldWith found n x = drop (length (behind found n x) - length found) (behind found n x)
+
+-- They stand in the first entries of what is left of the list, and their number is given back; the other entries are as found.
+pub record Pushed (found : List ℕ) (n x : ℕ) (left : List ℕ) (r : ℕ) : Type 0 where
+  pub entries : left ≡ over (heldWith found n x) found
+  pub number : r ≡ length (heldWith found n x)

@@ -1,3 +1,0 @@
--- The laws that the functions' proofs cite. Assumes nothing.
-mod Laws
-mod Progress
