@@ -54,7 +54,7 @@ impl Table {
     }
 
     // The ceiling of a window: the most named for it, or else its length times the smallest.
-    fn ceiling(self, window: usize) -> u32
+    fn upper_at(self, window: usize) -> u32
         requires { ⌜ (1 ≤ window) × (window ≤ maxHorizon) ⌝ }
         requires { ⌜ self .«smallest_most» ≤ messageLimit ⌝ }
         ensures { λ r. ⌜ r ≡ upperIn self window ⌝ }
@@ -74,7 +74,7 @@ impl Table {
     {
         let mut i = 0;
         while i < horizon {
-            upper[i] = self.ceiling(i + 1);
+            upper[i] = self.upper_at(i + 1);
             lower[i] = self.leasts[i];
             i += 1;
         }

@@ -22,26 +22,26 @@ window-sum : sum (countsOf (0 ∷ 2 ∷ 1 ∷ 0 ∷ 2 ∷ 0 ∷ [])) 1 4 ≡ 5
 unfolding sum
 window-sum = refl
 
-fourth-ceiling : upperAt published 4 ≡ 12
+fourth-upper : upperAt published 4 ≡ 12
 unfolding figure
-fourth-ceiling = refl
+fourth-upper = refl
 
 published-slack : slack published ≡ 28
 unfolding fold figure
 published-slack = refl
 
-negative-ceiling : after whole 1 falling .upper ≡ negsuc 3 ∷ pos 1 ∷ []
+negative-upper : after whole 1 falling .upper ≡ negsuc 3 ∷ pos 1 ∷ []
 unfolding after figuresOf round newFigure fold table figure
-negative-ceiling = refl
+negative-upper = refl
 
 -- Cut off at 0 the same ceiling is 0; the leasts are the same, and cross with either.
-cut-off-ceiling : after cutOff 1 falling ≡ pairOf (0 ∷ 1 ∷ []) (5 ∷ 10 ∷ [])
+cut-off-upper : after cutOff 1 falling ≡ pairOf (0 ∷ 1 ∷ []) (5 ∷ 10 ∷ [])
 unfolding after figuresOf round newFigure fold table figure
-cut-off-ceiling = refl
+cut-off-upper = refl
 
-exact-leasts : after whole 1 falling .lower ≡ pos 5 ∷ pos 10 ∷ []
+exact-lower : after whole 1 falling .lower ≡ pos 5 ∷ pos 10 ∷ []
 unfolding after figuresOf round newFigure fold table figure
-exact-leasts = refl
+exact-lower = refl
 
 published-first : after whole 1 published .upper ≡ pos 3 ∷ pos 3 ∷ pos 3 ∷ pos 6 ∷ pos 9 ∷ []
 unfolding after figuresOf round newFigure fold table figure

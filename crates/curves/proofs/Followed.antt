@@ -16,8 +16,8 @@ Follows p g = (s : ℕ → ℕ) × Conforms∞ p s × ((d : ℕ) → d ≤ horiz
 
 -- g grows, over any d ticks more, by no less than their least and no more than their ceiling.
 module _ (p : Pair) (C : Closed p) (h : 1 ≤ horizon p) (g : ℕ → ℕ) (none : g 0 ≡ 0)
-    (least-more : (i d : ℕ) → i + d ≤ horizon p → g i + lowerAt p d ≤ g (i + d))
-    (most-more : (i d : ℕ) → i + d ≤ horizon p → g (i + d) ≤ g i + upperAt p d) where
+    (lower-more : (i d : ℕ) → i + d ≤ horizon p → g i + lowerAt p d ≤ g (i + d))
+    (upper-more : (i d : ℕ) → i + d ≤ horizon p → g (i + d) ≤ g i + upperAt p d) where
   steps : List ℕ
   steps = table (λ d. g d - g (d - 1)) (horizon p)
 
@@ -30,7 +30,7 @@ module _ (p : Pair) (C : Closed p) (h : 1 ≤ horizon p) (g : ℕ → ℕ) (none
   step i l =
       let e : suc i - 1 ≡ i = omega arith in
       let e′ : i + 1 ≡ suc i = omega arith in
-      omega (arith, getD-table (λ d. g d - g (d - 1)) (horizon p) i 0 l, ap g e, ap g e′, least-more i 1 (omega arith))
+      omega (arith, getD-table (λ d. g d - g (d - 1)) (horizon p) i 0 l, ap g e, ap g e′, lower-more i 1 (omega arith))
 
   climb : (i d : ℕ) → i + d ≤ horizon p → sum (countsOf steps) i d + g i ≡ g (i + d)
   unfolding sum
@@ -40,7 +40,7 @@ module _ (p : Pair) (C : Closed p) (h : 1 ≤ horizon p) (g : ℕ → ℕ) (none
   steps-conform : Conforms p steps
   steps-conform i d u v w =
       let l : i + d ≤ horizon p = (rw length-steps at w) in
-      omega (arith, climb i d l, least-more i d l, most-more i d l)
+      omega (arith, climb i d l, lower-more i d l, upper-more i d l)
 
   follows : Follows p g
   follows =

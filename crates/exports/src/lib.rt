@@ -19,15 +19,15 @@ const REFUSAL: u64 = 4_294_967_296;
 // `closure::close`.
 #[no_mangle]
 pub extern "C" fn calgedze_close(
-    ceilings: &[u32],
-    leasts: &[u32],
-    upper: &mut [u32],
-    lower: &mut [u32],
+    upper: &[u32],
+    lower: &[u32],
+    closed_upper: &mut [u32],
+    closed_lower: &mut [u32],
 ) -> u64
-    ensures { λ r. ⌜ returned r (pairOf (now (upper .exit)) (now (lower .exit)))
-        ≡ closingReturned (closing (pairOf (now (ceilings .entry)) (now (leasts .entry))) (pairOf (now (upper .entry)) (now (lower .entry)))) ⌝ }
+    ensures { λ r. ⌜ returned r (pairOf (now («closed_upper» .exit)) (now («closed_lower» .exit)))
+        ≡ closingReturned (closing (pairOf (now (upper .entry)) (now (lower .entry))) (pairOf (now («closed_upper» .entry)) (now («closed_lower» .entry)))) ⌝ }
 {
-    closing_answer(closure::close(ceilings, leasts, upper, lower))
+    closing_answer(closure::close(upper, lower, closed_upper, closed_lower))
 }
 
 // What closing answers, as one number.
@@ -76,12 +76,12 @@ pub extern "C" fn calgedze_report(text: &[u8], output: &mut [u8]) -> usize
     let report = report::report(text);
     let n = report.length;
     let bytes = report.bytes;
-    copy(&bytes[..n], output);
+    copy_bytes(&bytes[..n], output);
     n
 }
 
 // The beginning of `from`, as far as `to` has room for it.
-fn copy(from: &[u8], to: &mut [u8])
+fn copy_bytes(from: &[u8], to: &mut [u8])
     ensures { λ _. ⌜ now (to .exit) ≡ over (now (from .entry)) (now (to .entry)) ⌝ }
 {
     let mut i = 0;
@@ -96,18 +96,18 @@ fn copy(from: &[u8], to: &mut [u8])
 
 // `scripts::judge_script`.
 #[no_mangle]
-pub extern "C" fn calgedze_judge(ceilings: &[u32], leasts: &[u32], script: &mut [u32]) -> u32
+pub extern "C" fn calgedze_judge(upper: &[u32], lower: &[u32], script: &mut [u32]) -> u32
     ensures { λ r. ⌜ answered r (now (script .exit))
-        ≡ judgedScript (pairOf (now (ceilings .entry)) (now (leasts .entry))) (now (script .entry)) ⌝ }
+        ≡ judgedScript (pairOf (now (upper .entry)) (now (lower .entry))) (now (script .entry)) ⌝ }
 {
-    scripts::judge_script(ceilings, leasts, script)
+    scripts::judge_script(upper, lower, script)
 }
 
 // `scripts::generate_script`.
 #[no_mangle]
-pub extern "C" fn calgedze_generate(ceilings: &[u32], leasts: &[u32], script: &mut [u32]) -> u32
+pub extern "C" fn calgedze_generate(upper: &[u32], lower: &[u32], script: &mut [u32]) -> u32
     ensures { λ r. ⌜ answered r (now (script .exit))
-        ≡ sentScript (pairOf (now (ceilings .entry)) (now (leasts .entry))) (now (script .entry)) ⌝ }
+        ≡ sentScript (pairOf (now (upper .entry)) (now (lower .entry))) (now (script .entry)) ⌝ }
 {
-    scripts::generate_script(ceilings, leasts, script)
+    scripts::generate_script(upper, lower, script)
 }

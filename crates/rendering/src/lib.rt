@@ -20,9 +20,9 @@ const LONGEST: usize = 5_799;
 // What rendering answers: the text is written, or document 01's question is answered no.
 pub enum Rendering {
     Written,
-    // 1: the ceiling list is not 1 to 256 long.
+    // 1: the upper list is not 1 to 256 long.
     UpperLength,
-    // 2: the least list has another length.
+    // 2: the lower list has another length.
     LowerLength,
     // 4: a figure is above 16,776,960.
     FigureLimit,
@@ -35,12 +35,12 @@ pub struct Rendered {
     pub bytes: [u8; LONGEST],
 }
 
-// The text of the pair of `ceilings` and `leasts`, entry 0 for the window of one tick.
-pub fn render(ceilings: &[u32], leasts: &[u32]) -> Rendered
-    ensures { λ r. ⌜ renderingAnswer r ≡ rendering (pairOf (now (ceilings .entry)) (now (leasts .entry))) ⌝ }
+// The text of the pair of `upper` and `lower`, entry 0 for the window of one tick.
+pub fn render(upper: &[u32], lower: &[u32]) -> Rendered
+    ensures { λ r. ⌜ renderingAnswer r ≡ rendering (pairOf (now (upper .entry)) (now (lower .entry))) ⌝ }
 {
-    match bounds::ask(ceilings, leasts) {
-        Asked::Passes => written(ceilings, leasts),
+    match bounds::ask(upper, lower) {
+        Asked::Passes => written(upper, lower),
         Asked::UpperLength => refused(Rendering::UpperLength),
         Asked::LowerLength => refused(Rendering::LowerLength),
         Asked::FigureLimit => refused(Rendering::FigureLimit),
@@ -48,12 +48,12 @@ pub fn render(ceilings: &[u32], leasts: &[u32]) -> Rendered
 }
 
 // The text of a pair that passes the questions.
-fn written(ceilings: &[u32], leasts: &[u32]) -> Rendered
-    requires { ⌜ AllYes (pairQuestions (pairOf (now ceilings) (now leasts))) ⌝ }
-    ensures { λ r. ⌜ renderingAnswer r ≡ written (textOf (pairOf (now (ceilings .entry)) (now (leasts .entry)))) ⌝ }
+fn written(upper: &[u32], lower: &[u32]) -> Rendered
+    requires { ⌜ AllYes (pairQuestions (pairOf (now upper) (now lower))) ⌝ }
+    ensures { λ r. ⌜ renderingAnswer r ≡ written (textOf (pairOf (now (upper .entry)) (now (lower .entry)))) ⌝ }
 {
     let mut bytes = blank();
-    let length = write_pair(ceilings, leasts, &mut bytes);
+    let length = write_pair(upper, lower, &mut bytes);
     Rendered {
         answer: Rendering::Written,
         length,
@@ -94,15 +94,15 @@ fn blank() -> [u8; LONGEST]
 }
 
 // Writes the header line and then the record of each window; the place after the text comes back.
-fn write_pair(ceilings: &[u32], leasts: &[u32], out: &mut [u8]) -> usize
-    requires { ⌜ AllYes (pairQuestions (pairOf (now ceilings) (now leasts))) ⌝ }
+fn write_pair(upper: &[u32], lower: &[u32], out: &mut [u8]) -> usize
+    requires { ⌜ AllYes (pairQuestions (pairOf (now upper) (now lower))) ⌝ }
     requires { ⌜ longest ≤ length (now out) ⌝ }
-    ensures { λ r. ⌜ Wrote (now (out .entry)) 0 (textOf (pairOf (now (ceilings .entry)) (now (leasts .entry)))) (now (out .exit)) r ⌝ }
+    ensures { λ r. ⌜ Wrote (now (out .entry)) 0 (textOf (pairOf (now (upper .entry)) (now (lower .entry)))) (now (out .exit)) r ⌝ }
 {
     let mut at = write::bytes(b"window,least,most\r\n", out, 0);
     let mut n = 0;
-    while n < ceilings.len() {
-        at = write::record(n as u32 + 1, leasts[n], ceilings[n], out, at);
+    while n < upper.len() {
+        at = write::record(n as u32 + 1, lower[n], upper[n], out, at);
         n += 1;
     }
     at

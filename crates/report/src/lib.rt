@@ -10,9 +10,8 @@ ghost use lib.ListN.{length, replicate};
 ghost use Rattle.curves.specs.Pairs.{pairOf};
 ghost use Rattle.bounds.specs.Bounds.{maxHorizon};
 ghost use Rattle.closure.specs.Closing.{closing};
-ghost use Rattle.closure.specs.Answers as closure;
-ghost use Rattle.constraints.specs.Answers.{readingHorizon};
-ghost use Rattle.constraints.specs.Answers as constraints;
+ghost use Rattle.closure.specs.Answers.{closingNumber, closingAnswer};
+ghost use Rattle.constraints.specs.Answers.{readingNumber, readingHorizon, readingAnswer};
 ghost use Rattle.rendering.specs.Rendering.{refusalLine, rendering};
 ghost use Rattle.rendering.specs.Answers.{renderingNumber};
 ghost use Rattle.report.specs.Report.{zeroLists, afterRendering, afterClosing, afterReading, output, reported};
@@ -32,46 +31,46 @@ pub struct Output {
 pub fn report(text: &[u8]) -> Output
     ensures { λ r. ⌜ r ≡ reported (output (now (text .entry))) ⌝ }
 {
-    let mut ceilings = zeros();
-    let mut leasts = zeros();
-    let reading = constraints::read(text, &mut ceilings, &mut leasts);
-    report_reading(reading, &ceilings, &leasts)
+    let mut upper = zeros();
+    let mut lower = zeros();
+    let reading = constraints::read(text, &mut upper, &mut lower);
+    report_reading(reading, &upper, &lower)
 }
 
 // What follows once the text is read.
-fn report_reading(reading: Reading, ceilings: &[u32], leasts: &[u32]) -> Output
-    requires { ⌜ (length (now ceilings) ≡ maxHorizon) × (length (now leasts) ≡ maxHorizon) ⌝ }
+fn report_reading(reading: Reading, upper: &[u32], lower: &[u32]) -> Output
+    requires { ⌜ (length (now upper) ≡ maxHorizon) × (length (now lower) ≡ maxHorizon) ⌝ }
     requires { ⌜ readingHorizon reading ≤ maxHorizon ⌝ }
-    ensures { λ r. ⌜ r ≡ reported (afterReading (constraints.readingAnswer reading (pairOf (now (ceilings .entry)) (now (leasts .entry))))) ⌝ }
+    ensures { λ r. ⌜ r ≡ reported (afterReading (readingAnswer reading (pairOf (now (upper .entry)) (now (lower .entry))))) ⌝ }
 {
     let number = reading_number(reading);
     if 0 < number {
-        return refused(number);
+        return refusal_output(number);
     }
     let horizon = reading_horizon(reading);
-    report_pair(&ceilings[..horizon], &leasts[..horizon])
+    report_pair(&upper[..horizon], &lower[..horizon])
 }
 
 // Closes a pair and reports its closure.
-fn report_pair(ceilings: &[u32], leasts: &[u32]) -> Output
-    requires { ⌜ length (now ceilings) ≤ maxHorizon ⌝ }
-    ensures { λ r. ⌜ r ≡ reported (afterClosing (length (now (ceilings .entry)))
-        (closing (pairOf (now (ceilings .entry)) (now (leasts .entry))) zeroLists)) ⌝ }
+fn report_pair(upper: &[u32], lower: &[u32]) -> Output
+    requires { ⌜ length (now upper) ≤ maxHorizon ⌝ }
+    ensures { λ r. ⌜ r ≡ reported (afterClosing (length (now (upper .entry)))
+        (closing (pairOf (now (upper .entry)) (now (lower .entry))) zeroLists)) ⌝ }
 {
-    let mut upper = zeros();
-    let mut lower = zeros();
-    let closing = closure::close(ceilings, leasts, &mut upper, &mut lower);
-    report_closing(closing, ceilings.len(), &upper, &lower)
+    let mut closed_upper = zeros();
+    let mut closed_lower = zeros();
+    let closing = closure::close(upper, lower, &mut closed_upper, &mut closed_lower);
+    report_closing(closing, upper.len(), &closed_upper, &closed_lower)
 }
 
 // What follows once the pair is closed.
 fn report_closing(closing: Closing, horizon: usize, upper: &[u32], lower: &[u32]) -> Output
     requires { ⌜ (horizon ≤ length (now upper)) × (horizon ≤ length (now lower)) ⌝ }
-    ensures { λ r. ⌜ r ≡ reported (afterClosing horizon (closure.closingAnswer closing (pairOf (now (upper .entry)) (now (lower .entry))))) ⌝ }
+    ensures { λ r. ⌜ r ≡ reported (afterClosing horizon (closingAnswer closing (pairOf (now (upper .entry)) (now (lower .entry))))) ⌝ }
 {
     let number = closing_number(closing);
     if 0 < number {
-        return refused(number);
+        return refusal_output(number);
     }
     report_closure(&upper[..horizon], &lower[..horizon])
 }
@@ -84,20 +83,20 @@ fn report_closure(upper: &[u32], lower: &[u32]) -> Output
     let answer = rendered.answer;
     let number = rendering_number(answer);
     if 0 < number {
-        return refused(number);
+        return refusal_output(number);
     }
-    shown(rendered)
+    output_of(rendered)
 }
 
 // The line of a refusal.
-fn refused(number: u32) -> Output
+fn refusal_output(number: u32) -> Output
     ensures { λ r. ⌜ r ≡ reported (refusalLine number) ⌝ }
 {
-    shown(rendering::render_refusal(number))
+    output_of(rendering::render_refusal(number))
 }
 
 // A rendered text as the whole output.
-fn shown(rendered: Rendered) -> Output
+fn output_of(rendered: Rendered) -> Output
     ensures { λ r. ⌜ (r .length ≡ rendered .length) × (r .bytes ≡ rendered .bytes) ⌝ }
 {
     let length = rendered.length;
@@ -107,7 +106,7 @@ fn shown(rendered: Rendered) -> Output
 
 // The number of a refusal, and 0 for a result: of reading, and with it the horizon; of closing; of rendering.
 fn reading_number(reading: Reading) -> u32
-    ensures { λ r. ⌜ r ≡ constraints.readingNumber reading ⌝ }
+    ensures { λ r. ⌜ r ≡ readingNumber reading ⌝ }
 {
     match reading {
         Reading::Read { horizon: _ } => 0,
@@ -135,7 +134,7 @@ fn reading_horizon(reading: Reading) -> usize
 }
 
 fn closing_number(closing: Closing) -> u32
-    ensures { λ r. ⌜ r ≡ closure.closingNumber closing ⌝ }
+    ensures { λ r. ⌜ r ≡ closingNumber closing ⌝ }
 {
     match closing {
         Closing::Closed { rounds: _ } => 0,

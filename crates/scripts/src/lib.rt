@@ -32,22 +32,22 @@ const ALREADY_FAILED: u32 = 3_000;
 const REFUSED: u32 = 4_000_000_000;
 
 // A monitor, opened and given the counts of the script. Each is overwritten with its verdict.
-pub fn judge_script(ceilings: &[u32], leasts: &[u32], script: &mut [u32]) -> u32
+pub fn judge_script(upper: &[u32], lower: &[u32], script: &mut [u32]) -> u32
     ensures { λ r. ⌜ answered r (now (script .exit))
-        ≡ judgedScript (pairOf (now (ceilings .entry)) (now (leasts .entry))) (now (script .entry)) ⌝ }
+        ≡ judgedScript (pairOf (now (upper .entry)) (now (lower .entry))) (now (script .entry)) ⌝ }
 {
-    let opened = Monitor::open(ceilings, leasts);
+    let opened = Monitor::open(upper, lower);
     let opening = opened.opening;
     let state = opened.state;
     let number = opening_number(opening);
     if number == 0 {
-        judge(state, script);
+        judge_all(state, script);
     }
     number
 }
 
 // The ticks of a script, each by the state that the one before it left.
-fn judge(opened: Monitor, script: &mut [u32])
+fn judge_all(opened: Monitor, script: &mut [u32])
     ensures { λ _. ⌜ now (script .exit) ≡ map rulingCode (rulings (monitorViewOf opened) (now (script .entry))) ⌝ }
 {
     let mut monitor = opened;
@@ -76,22 +76,22 @@ fn verdict_code(verdict: Verdict) -> u32
 }
 
 // A generator, opened and given the choices of the script. Each is overwritten with the count that is sent.
-pub fn generate_script(ceilings: &[u32], leasts: &[u32], script: &mut [u32]) -> u32
+pub fn generate_script(upper: &[u32], lower: &[u32], script: &mut [u32]) -> u32
     ensures { λ r. ⌜ answered r (now (script .exit))
-        ≡ sentScript (pairOf (now (ceilings .entry)) (now (leasts .entry))) (now (script .entry)) ⌝ }
+        ≡ sentScript (pairOf (now (upper .entry)) (now (lower .entry))) (now (script .entry)) ⌝ }
 {
-    let opened = Generator::open(ceilings, leasts);
+    let opened = Generator::open(upper, lower);
     let opening = opened.opening;
     let state = opened.state;
     let number = opening_number(opening);
     if number == 0 {
-        generate(state, script);
+        generate_all(state, script);
     }
     number
 }
 
 // The ticks of a script, each by the state that the one before it left.
-fn generate(opened: Generator, script: &mut [u32])
+fn generate_all(opened: Generator, script: &mut [u32])
     ensures { λ _. ⌜ now (script .exit) ≡ map sendingCode (sendings (viewOf (opened .history)) (now (script .entry))) ⌝ }
 {
     let mut generator = opened;

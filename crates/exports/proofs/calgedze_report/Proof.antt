@@ -11,7 +11,7 @@ returns c =
     let copied = c .before .before in
     let told = copied .before .before .before .before .report in
     let args = copied .before .before .before .before .before .before .before .args in
-    report-into (args .text .now) (args .output .now) _ (told .result) (told .ensures) (copied .copy .ensures)
+    report-into (args .text .now) (args .output .now) _ (told .result) (told .ensures) (copied .copy-bytes .ensures)
 
 pub calgedze-report-spec : {M : Type 1} → statement M
 calgedze-report-spec =

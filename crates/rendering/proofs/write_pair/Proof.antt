@@ -11,20 +11,20 @@ use Rattle.rendering.proofs.write_pair.Statement.{statement}
 use Rattle.rendering.proofs.write_pair.Tie as tie
 
 abbrev Inv-loop : tie.InvT-loop
-Inv-loop ceilings leasts out₀ at₀ n₀ out at n =
-    (n ≤ length ceilings) × (length out ≡ length out₀)
-    × ((found : Bytes) → Wrote found 0 (textTo (pairOf ceilings leasts) 0) out₀ at₀
-    → Wrote found 0 (textTo (pairOf ceilings leasts) n) out at)
+Inv-loop upper lower out₀ at₀ n₀ out at n =
+    (n ≤ length upper) × (length out ≡ length out₀)
+    × ((found : Bytes) → Wrote found 0 (textTo (pairOf upper lower) 0) out₀ at₀
+    → Wrote found 0 (textTo (pairOf upper lower) n) out at)
 
 abbrev μ-loop : tie.MeasureT-loop
-μ-loop ceilings leasts out₀ at₀ n₀ out at n = length ceilings - n
+μ-loop upper lower out₀ at₀ n₀ out at n = length upper - n
 
 -- The function's start, the pair, and what is written before a turn.
 abbrev start : tie.At-loop Inv-loop μ-loop → tie.Start Inv-loop μ-loop
 start k = k .before .before .before .before .before .before .before .before .before
 
 abbrev pair : tie.At-loop Inv-loop μ-loop → Pair
-pair k = pairOf (start k .args .ceilings .now) (start k .args .leasts .now)
+pair k = pairOf (start k .args .upper .now) (start k .args .lower .now)
 
 so-far
     : (k : tie.At-loop Inv-loop μ-loop) → Wrote (start k .args .out .now) 0 (textTo (pair k) (k .loop .n)) (k .loop .out) (k .loop .at)

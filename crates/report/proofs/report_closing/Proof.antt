@@ -6,7 +6,7 @@ use Rattle.report.proofs.report_closing.Statement.{statement}
 use Rattle.report.proofs.report_closing.Tie as tie
 
 returns : tie.Need-returns
-returns c = line-told _ _ _ _ (c .before .before .closing-number .ensures) (c .before .if1 .taken) (c .refused .ensures)
+returns c = line-told _ _ _ _ (c .before .before .closing-number .ensures) (c .before .if1 .taken) (c .refusal-output .ensures)
 
 slice-aggregate-report-closure : tie.Need-slice-aggregate-report-closure
 slice-aggregate-report-closure c =

@@ -9,13 +9,13 @@ returns : tie.Need-returns
 returns c =
     let k = c .before .before in
     line-told _ _ _ _ (k .rendering-number .ensures ∙ ap (λ a. a .number) (k .before .render .ensures)) (c .before .if1 .taken)
-    (c .refused .ensures)
+    (c .refusal-output .ensures)
 
 returns-2 : tie.Need-returns-2
 returns-2 c =
     let k = c .before .before in
     let told = k .before .render in
-    pair-shown (told .result) _ (c .shown .ensures) _ (told .ensures) (omega (arith, k .rendering-number .ensures, c .before .if1 .left))
+    pair-shown (told .result) _ (c .output-of .ensures) _ (told .ensures) (omega (arith, k .rendering-number .ensures, c .before .if1 .left))
 
 pub report-closure-spec : {M : Type 1} → statement M
 report-closure-spec =

@@ -13,8 +13,8 @@ returns c =
     let k = c .before .before .before .before .before in
     let z = k .before .before .before in
     let s = z .before .before .before .before in
-    into-blank (closing (pairOf (s .args .ceilings .now) (s .args .leasts .now)))
-    (λ a. reported (afterClosing (length (s .args .ceilings .now)) a)) _ _ _ _
+    into-blank (closing (pairOf (s .args .upper .now) (s .args .lower .now)))
+    (λ a. reported (afterClosing (length (s .args .upper .now)) a)) _ _ _ _
     (z .before .zeros .ensures) (z .zeros2 .ensures) (k .close .ensures) (c .report-closing .ensures)
 
 pub report-pair-spec : {M : Type 1} → statement M

@@ -6,22 +6,22 @@ use Rattle.report.proofs.report_reading.Statement.{statement}
 use Rattle.report.proofs.report_reading.Tie as tie
 
 returns : tie.Need-returns
-returns c = line-told _ _ _ _ (c .before .before .reading-number .ensures) (c .before .if1 .taken) (c .refused .ensures)
+returns c = line-told _ _ _ _ (c .before .before .reading-number .ensures) (c .before .if1 .taken) (c .refusal-output .ensures)
 
 -- Where a pair was read: its horizon is within the lists.
 abbrev start : tie.After-reading-horizon → tie.Start
 start k = k .before .before .before .before .before
 
-uppers : (k : tie.After-reading-horizon) → k .reading-horizon .result ≤ length (start k .args .ceilings .now)
+uppers : (k : tie.After-reading-horizon) → k .reading-horizon .result ≤ length (start k .args .upper .now)
 uppers k = omega (arith, k .reading-horizon .ensures, start k .pre)
 
-lowers : (k : tie.After-reading-horizon) → k .reading-horizon .result ≤ length (start k .args .leasts .now)
+lowers : (k : tie.After-reading-horizon) → k .reading-horizon .result ≤ length (start k .args .lower .now)
 lowers k = omega (arith, k .reading-horizon .ensures, start k .pre)
 
 report-pair-requires : tie.Need-report-pair-requires
 report-pair-requires c κs =
     let k = c .before .before in
-    let part = length-take-le (k .reading-horizon .result) (start k .args .ceilings .now) (uppers k) in
+    let part = length-take-le (k .reading-horizon .result) (start k .args .upper .now) (uppers k) in
     omega (arith, part, k .reading-horizon .ensures, start k .pre)
 
 returns-2 : tie.Need-returns-2

@@ -15,8 +15,8 @@ returns c =
     let told = ran .before .before .before .before .before .«open» in
     let args = ran .before .before .before .before .before .before .before .before .before .args in
     run-opened (told .result .opening) _ (told .ensures .answer) _ (number .ensures) (ran .before .before .if1 .taken)
-    (pairOf (args .ceilings .now) (args .leasts .now)) _ (told .ensures .history)
-    (λ v. map sendingCode (sendings v (args .script .now))) (args .script .now) _ (ran .generate .ensures)
+    (pairOf (args .upper .now) (args .lower .now)) _ (told .ensures .history)
+    (λ v. map sendingCode (sendings v (args .script .now))) (args .script .now) _ (ran .generate-all .ensures)
 
 returns-2 : tie.Need-returns-2
 returns-2 c =

@@ -17,9 +17,9 @@ returns c =
     let told = ran .before .before .before .before .before .«open» in
     let args = ran .before .before .before .before .before .before .before .before .before .args in
     run-opened (told .result .opening) _ (told .ensures .answer) _ (number .ensures) (ran .before .before .if1 .taken)
-    (pairOf (args .ceilings .now) (args .leasts .now)) _ (told .ensures .history)
+    (pairOf (args .upper .now) (args .lower .now)) _ (told .ensures .history)
     (λ v. map rulingCode (rulings (monitorView v false) (args .script .now))) (args .script .now) _
-    (ran .judge .ensures
+    (ran .judge-all .ensures
     ∙ ap (λ b. map rulingCode (rulings (monitorView (viewOf (told .result .state .history)) b) (args .script .now)))
     (told .ensures .unfailed))
 

@@ -21,7 +21,7 @@ loop-again c =
     let head = c .before .before .before .loop in
     let same : head .i + 1 - 1 ≡ head .i = omega arith in (
       omega arith,
-      stored (head .inv .1) _ (omega arith) (c .before .ceiling .ensures),
+      stored (head .inv .1) _ (omega arith) (c .before .upper-at .ensures),
       stored (head .inv .2) _ (omega arith) (rw same),
     )
 

@@ -1,4 +1,4 @@
--- `scripts::judge` meets its contract: before a turn the counts before i have their verdicts, and the monitor is where these left it.
+-- `scripts::judge_all` meets its contract: before a turn the counts before i have their verdicts, and the monitor is where these left it.
 -- Assumes nothing.
 use Rattle.laws.proofs.Base.{ℕ, _-_, _≤_, _≡_, refl, ap, _∙_, List, map, arith, needs, length}
 use Rattle.monitor.specs.Monitoring.{MonitorView, monitorViewOf, judging}
@@ -7,8 +7,8 @@ use Rattle.monitor.proofs.Said.{monitor-next}
 use Rattle.scripts.specs.Codes.{rulingCode}
 use Rattle.scripts.proofs.Coded.{names-window}
 use Rattle.scripts.proofs.Scripts.{Ran, ran-none, ran-more, ran-all}
-use Rattle.scripts.proofs.judge.Statement.{statement}
-use Rattle.scripts.proofs.judge.Tie as tie
+use Rattle.scripts.proofs.judge_all.Statement.{statement}
+use Rattle.scripts.proofs.judge_all.Tie as tie
 
 abbrev run : MonitorView → List ℕ → List ℕ
 run w xs = map rulingCode (rulings w xs)
@@ -48,8 +48,8 @@ returns c =
     let end = c .before .loop in
     ran-all run entry afterTick (λ w. refl) _ _ _ _ (end .i) (omega (arith, c .loop-test .left)) (end .inv .2)
 
-pub judge-spec : {M : Type 1} → statement M
-judge-spec =
+pub judge-all-spec : {M : Type 1} → statement M
+judge-all-spec =
     tie.close
     (tie.spec
     Inv-loop

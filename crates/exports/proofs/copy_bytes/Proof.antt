@@ -1,9 +1,9 @@
--- `exports::copy` meets its contract: before a turn the first i bytes are copied.
+-- `exports::copy_bytes` meets its contract: before a turn the first i bytes are copied.
 -- Assumes nothing.
 use Rattle.laws.proofs.Base.{_-_, _≤_, _≡_, refl, _++_, arith, needs, length, take, drop}
 use Rattle.laws.proofs.Copying.{copied-more, copied-room, copied-all}
-use Rattle.exports.proofs.copy.Statement.{statement}
-use Rattle.exports.proofs.copy.Tie as tie
+use Rattle.exports.proofs.copy_bytes.Statement.{statement}
+use Rattle.exports.proofs.copy_bytes.Tie as tie
 
 abbrev Inv-loop : tie.InvT-loop
 Inv-loop from to₀ i₀ to i = (i ≤ length from) × (i ≤ length to₀) × (length to ≡ length to₀) × (to ≡ take i from ++ drop i to₀)
@@ -30,8 +30,8 @@ returns-2 c =
     let end = c .before .loop .inv in
     copied-all (c .before .before .args .from .now) _ _ _ (end .3) (omega (arith, c .loop-test .left, end .0)) (end .1)
 
-pub copy-spec : {M : Type 1} → statement M
-copy-spec =
+pub copy-bytes-spec : {M : Type 1} → statement M
+copy-bytes-spec =
     tie.close
     (tie.spec
     Inv-loop

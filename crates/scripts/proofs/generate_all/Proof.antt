@@ -1,4 +1,4 @@
--- `scripts::generate` meets its contract: before a turn the choices before i have led to counts, and the generator is where these left it.
+-- `scripts::generate_all` meets its contract: before a turn the choices before i have led to counts, and the generator is where these left it.
 -- Assumes nothing.
 use Rattle.laws.proofs.Base.{ℕ, _-_, _≤_, _≡_, refl, ap, _∙_, List, map, arith, needs, length}
 use Rattle.history.specs.States.{View, viewOf}
@@ -7,8 +7,8 @@ use Rattle.generator.specs.Calls.{viewAfter, sendings}
 use Rattle.generator.proofs.Said.{generator-next}
 use Rattle.scripts.specs.Codes.{sendingCode}
 use Rattle.scripts.proofs.Scripts.{Ran, ran-none, ran-more, ran-all}
-use Rattle.scripts.proofs.generate.Statement.{statement}
-use Rattle.scripts.proofs.generate.Tie as tie
+use Rattle.scripts.proofs.generate_all.Statement.{statement}
+use Rattle.scripts.proofs.generate_all.Tie as tie
 
 abbrev run : View → List ℕ → List ℕ
 run v choices = map sendingCode (sendings v choices)
@@ -48,8 +48,8 @@ returns c =
     let end = c .before .loop in
     ran-all run entry after (λ v. refl) _ _ _ _ (end .i) (omega (arith, c .loop-test .left)) (end .inv .2)
 
-pub generate-spec : {M : Type 1} → statement M
-generate-spec =
+pub generate-all-spec : {M : Type 1} → statement M
+generate-all-spec =
     tie.close
     (tie.spec
     Inv-loop

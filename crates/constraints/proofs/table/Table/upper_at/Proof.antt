@@ -1,9 +1,9 @@
--- `constraints::table::Table::ceiling` meets its contract: the product fits, as both factors are bounded.
+-- `constraints::table::Table::upper_at` meets its contract: the product fits, as both factors are bounded.
 -- Assumes nothing.
 use Rattle.laws.proofs.Base.{arith, needs}
 use Rattle.constraints.proofs.Tables.{product-bound}
-use Rattle.constraints.proofs.table.Table.ceiling.Statement.{statement}
-use Rattle.constraints.proofs.table.Table.ceiling.Tie as tie
+use Rattle.constraints.proofs.table.Table.upper_at.Statement.{statement}
+use Rattle.constraints.proofs.table.Table.upper_at.Tie as tie
 
 mul-result-2 : tie.Need-mul-result-2
 mul-result-2 c =
@@ -13,8 +13,8 @@ mul-result-2 c =
 returns-2 : tie.Need-returns-2
 returns-2 c = rw (c .if1 .left)
 
-pub ceiling-spec : {M : Type 1} → statement M
-ceiling-spec =
+pub upper-at-spec : {M : Type 1} → statement M
+upper-at-spec =
     tie.close
     (tie.spec
     (λ c. search needs)
