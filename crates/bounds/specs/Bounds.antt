@@ -24,7 +24,7 @@ Bounded us = (d : ℕ) → 1 ≤ d → d ≤ length us → figure 0 us d ≤ fig
 abbrev pub bounded? : (us : List ℕ) → Dec (Bounded us)
 bounded? us = every? (λ d. figure 0 us d ≤ figureLimit) (length us) (λ d. decLe (figure 0 us d) figureLimit)
 
--- 1. The ceiling list has 1 to 256 entries.
+-- 1. The upper list (ceilings) has 1 to 256 entries.
 abbrev pub question1 : Pair → Question
 question1 p =
     record {
@@ -33,7 +33,7 @@ question1 p =
       answered = Dec·and (decLe 1 (horizon p)) (decLe (horizon p) maxHorizon);
     }
 
--- 2. The least list has as many.
+-- 2. The lower list (leasts) has as many.
 abbrev pub question2 : Pair → Question
 question2 p = record { number = 2; asked = length (p .lower) ≡ horizon p; answered = ℕ-discrete (length (p .lower)) (horizon p) }
 

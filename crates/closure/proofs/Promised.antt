@@ -1,4 +1,4 @@
--- Theorems 5 to 8 over what `closing` says. Assumes nothing.
+-- What a closure that is given is worth: figures met, extendable streams, equal closures, closed again. Assumes nothing.
 use Rattle.laws.proofs.Base.{ℕ, _≤_, _≡_, sym, ap, _∙_, _↔_, arith}
 use mathlib.Core.Logic.{Iff·trans, Iff·symm}
 use Rattle.curves.specs.Streams.{Stream, sum}
@@ -36,7 +36,7 @@ use Rattle.closure.specs.Theorems.{
 use Rattle.closure.proofs.Said.{closed-is, gives-passes}
 use Rattle.closure.proofs.Given.{arrived, positive-horizon, given-horizon, given-even, streamOf}
 
--- ---- 5
+-- ---- one stream follows the upper curve, another the lower
 pub follows-upper : FollowsUpper
 follows-upper p found g =
     let (s, c, f) = closure-upper p (closureOf p found) _ (arrived p found g) (positive-horizon p found g) in
@@ -53,7 +53,7 @@ figures-met p found g d u v =
     let (t, k, h) = follows-lower p found g in
     ((s, c, (0, f d v)), (t, k, (0, h d v)))
 
--- ---- 6
+-- ---- extendable streams
 pub conforms-iff-extendable : ConformsIffExtendable
 conforms-iff-extendable p found g xs = (there, back)
   where
@@ -66,7 +66,7 @@ conforms-iff-extendable p found g xs = (there, back)
     back (s, b, c) =
         begins-closure p (closureOf p found) _ (arrived p found g) (positive-horizon p found g) xs (s .counts) b c
 
--- ---- 7
+-- ---- equal closures
 given-streams : (p found : Pair) → GivesClosure p found → (s : ℕ → ℕ) → Conforms∞ p s ↔ Conforms∞ (closureOf p found) s
 given-streams p found g = closure-streams p (closureOf p found) _ (arrived p found g)
 
@@ -111,7 +111,7 @@ equal-iff-same-streams p found p′ found′ g g′ h = (there, back)
               no-looser p′ found′ p found g′ g (sym h) (λ s. same s .1) d u (omega arith),
             )
 
--- ---- 8
+-- ---- causal, and closed again
 pub given-is-causal : GivenIsCausal
 given-is-causal p found g = closure-is-causal p (closureOf p found) _ (arrived p found g)
 

@@ -14,7 +14,7 @@ use Rattle.bounds.specs.Bounds.{question1, question2, question4, RoomFor, roomF
 abbrev pub question3 : Pair → Pair → Question
 question3 p found = record { number = 3; asked = RoomFor (horizon p) found; answered = roomFor? (horizon p) found }
 
--- 5. The rounds arrive at a closure. They do or they do not: theorem 1.
+-- 5. The rounds arrive at a closure. They do or they do not (`ArrivesOrCrosses`).
 abbrev pub question5 : Pair → Question
 question5 p = record { number = 5; asked = Closes p; answered = closes? p }
 

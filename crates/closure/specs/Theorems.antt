@@ -23,7 +23,7 @@ GivesClosure p found = closing p found .number ≡ 0
 abbrev pub closureOf : Pair → Pair → Pair
 closureOf p found = first (horizon p) (closing p found .results)
 
--- ---- 1. Demand 2, its last sentence. What the rounds arrive at is given, with their count; and what is given, they arrive at.
+-- ---- Demand 2, its last sentence. What the rounds arrive at is given, with their count; and what is given, they arrive at.
 abbrev pub GivesWhatArrives : Type 0
 GivesWhatArrives =
     (p found : Pair) (n : ℕ) (q : Pair) → PassesFour p found → Arrives whole p n q → closing p found ≡ closed n q found
@@ -34,7 +34,7 @@ ClosureIsArrivedAt =
     → Arrives whole p (closing p found .rounds) (closureOf p found)
     × (closing p found ≡ closed (closing p found .rounds) (closureOf p found) found)
 
--- ---- 4. Demand 1: refused with n exactly when question n is the first that is answered no; else a closure is given.
+-- ---- Demand 1: refused with n exactly when question n is the first that is answered no; else a closure is given.
 abbrev pub ClosingRefused : Type 0
 ClosingRefused = (p found : Pair) (n : ℕ) → ((1 ≤ n) × (closing p found ≡ refusedClosing n found)) ↔ FirstNo (closingQuestions p found) n
 
@@ -49,7 +49,7 @@ RefusedIffNoStream =
 abbrev pub ElseClosed : Type 0
 ElseClosed = (p found : Pair) → PassesFour p found → (closing p found ≡ refusedClosing 5 found) ⊎ GivesClosure p found
 
--- ---- 5. One conforming stream has, for every window d, the closure's ceiling of d in its first d ticks; another has the leasts.
+-- ---- One conforming stream has, for every window d, the closure's ceiling of d in its first d ticks; another has the leasts.
 abbrev pub Follows : Pair → (ℕ → ℕ) → Type 0
 Follows p g = (s : Stream) × Conforms∞ p (s .counts) × ((d : ℕ) → d ≤ horizon p → sum (s .counts) 0 d ≡ g d)
 
@@ -68,19 +68,19 @@ FiguresMet =
     (p found : Pair) → GivesClosure p found → (d : ℕ) → 1 ≤ d → d ≤ horizon p
     → MetBySome p d (upperAt (closureOf p found) d) × MetBySome p d (lowerAt (closureOf p found) d)
 
--- ---- 6. Demand 3, its third sentence, the second half: the conforming starts of the closure are those with a future.
+-- ---- Demand 3, its third sentence, the second half: the finite streams that conform to the closure are the extendable ones.
 abbrev pub ConformsIffExtendable : Type 0
 ConformsIffExtendable =
     (p found : Pair) → GivesClosure p found → (xs : List ℕ)
     → Conforms (closureOf p found) xs ↔ Extendable p xs
 
--- ---- 7. Demand 3, its first sentence: closures tell pairs apart exactly as their unbounded streams do.
+-- ---- Demand 3, its first sentence: closures tell pairs apart exactly as their unbounded streams do.
 abbrev pub EqualIffSameStreams : Type 0
 EqualIffSameStreams =
     (p found p′ found′ : Pair) → GivesClosure p found → GivesClosure p′ found′ → horizon p ≡ horizon p′
     → Equal (closureOf p found) (closureOf p′ found′) ↔ ((s : Stream) → Conforms∞ p (s .counts) ↔ Conforms∞ p′ (s .counts))
 
--- ---- 8. A closure is causal, passes questions 1, 2 and 4, and closing it gives it back after 0 rounds.
+-- ---- A closure is causal, passes questions 1, 2 and 4, and closing it gives it back after 0 rounds.
 abbrev pub GivenIsCausal : Type 0
 GivenIsCausal = (p found : Pair) → GivesClosure p found → Causal (closureOf p found)
 

@@ -16,7 +16,7 @@ use Rattle.constraints.specs.declared.Reading.{Reading}
 use Rattle.constraints.specs.declared.Reading.the-variants.{Read, HeaderLine, RecordForm, FigureRange, WindowAgain}
 use Rattle.constraints.specs.declared.Reading.the-variants.{NoRecord, ResultLength}
 use Rattle.constraints.specs.declared.Fault.{Fault}
-use Rattle.constraints.specs.declared.Fault.the-variants.{Sound, Form, Range, Again}
+use Rattle.constraints.specs.declared.Fault.the-variants.{Sound, Malformed, OutOfRange, Repeated}
 use Rattle.constraints.specs.declared.Scan.{Scan}
 use Rattle.constraints.specs.declared.table.Table.{Table}
 
@@ -55,9 +55,9 @@ filledFrom t h found = pairOf (table (upperIn t) h ++ drop h (found .upper)) (ta
 -- What the records rs were found to be.
 abbrev pub ScannedAs : List Bytes → Table → Fault → Type 0
 ScannedAs rs t Sound = AllYes (recordQuestions [] rs) × TableHolds t (map constraintOf rs)
-ScannedAs rs t Form = FirstNo (recordQuestions [] rs) 7
-ScannedAs rs t Range = FirstNo (recordQuestions [] rs) 8
-ScannedAs rs t Again = FirstNo (recordQuestions [] rs) 9
+ScannedAs rs t Malformed = FirstNo (recordQuestions [] rs) 7
+ScannedAs rs t OutOfRange = FirstNo (recordQuestions [] rs) 8
+ScannedAs rs t Repeated = FirstNo (recordQuestions [] rs) 9
 
 abbrev pub Scanned : List Bytes → Scan → Type 0
 Scanned rs s = ScannedAs rs (s .table) (s .fault)

@@ -43,9 +43,9 @@ pub enum Reading {
 enum Fault {
     // No record is faulty.
     Sound,
-    Form,
-    Range,
-    Again,
+    Malformed,
+    OutOfRange,
+    Repeated,
 }
 
 // The records read: their constraints, or the fault of the first faulty one.
@@ -71,9 +71,9 @@ pub fn read(text: &[u8], upper: &mut [u32], lower: &mut [u32]) -> Reading
     let table = scan.table;
     match fault {
         Fault::Sound => deliver(table, upper, lower),
-        Fault::Form => Reading::RecordForm,
-        Fault::Range => Reading::FigureRange,
-        Fault::Again => Reading::WindowAgain,
+        Fault::Malformed => Reading::RecordForm,
+        Fault::OutOfRange => Reading::FigureRange,
+        Fault::Repeated => Reading::WindowAgain,
     }
 }
 
@@ -112,7 +112,7 @@ fn read_records(text: &[u8]) -> Scan
             } => {
                 if table.named[window - 1] {
                     return Scan {
-                        fault: Fault::Again,
+                        fault: Fault::Repeated,
                         table,
                     };
                 }
@@ -121,13 +121,13 @@ fn read_records(text: &[u8]) -> Scan
             }
             Record::Malformed => {
                 return Scan {
-                    fault: Fault::Form,
+                    fault: Fault::Malformed,
                     table,
                 };
             }
             Record::OutOfRange => {
                 return Scan {
-                    fault: Fault::Range,
+                    fault: Fault::OutOfRange,
                     table,
                 };
             }

@@ -1,5 +1,5 @@
--- Theorem 1: the rounds of a pair arrive or cross, one of the two, once, and arrive within the pair's slack. Theorem 10, its second half:
--- they have ended after k + 1 where the horizon is at most 2^k. Assumes nothing.
+-- The rounds of a pair arrive or cross, one of the two, once, and arrive within the pair's slack; they have ended after k + 1 where the
+-- horizon is at most 2^k. Assumes nothing.
 use Rattle.laws.proofs.Base.{ℕ, zero, suc, _+_, _-_, _^_, _≤_, _<_, _≡_, sym, _⊎_, inl, inr, ⊎-elim, ⊎-map, decLe, ℕ-discrete, le-refl}
 use Rattle.laws.proofs.Base.{arith}
 use mathlib.Core.Path.{ap₂}

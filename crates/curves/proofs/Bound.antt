@@ -1,4 +1,4 @@
--- The rounds of a pair with a horizon of at most 2^k arrive or cross after at most k + 1 (theorem 10). Assumes nothing.
+-- The rounds of a pair with a horizon of at most 2^k arrive or cross after at most k + 1. Assumes nothing.
 use Rattle.laws.proofs.Base.{ℕ, zero, suc, _+_, _^_, _≤_, decLe, arith}
 use Rattle.curves.specs.Pairs.{horizon, Pair}
 use Rattle.curves.specs.Rounds.{cutOff, after, Crossed, Settled, Runs}

@@ -9,7 +9,7 @@ use Rattle.curves.specs.Ticks.{newest, passed, tooMany, tooFew}
 use Rattle.curves.specs.Rounds.{whole, cutOff, newFigure, round, figuresOf, after, Runs, Arrives}
 use Rattle.curves.proofs.Arrival.{crossed?, equal?}
 use Rattle.curves.proofs.Computed.{left?, same?, runs?, arrives?, arrives-computed}
-use Rattle.curves.proofs.Verdicts.{inside?, judged?, find, turned-down, verdict?}
+use Rattle.curves.proofs.Verdicts.{inside?, judged?, find, rejected, verdict?}
 
 -- The pair of the published triples, and one whose first round has a negative ceiling.
 abbrev published : Pair
@@ -70,24 +70,24 @@ newest-two = refl
 
 -- After 0, 2, 1, 0, 2, 0 on the published pair: 2 is too many for three ticks, 1 too few for five.
 three-ticks : verdict? published (0 ∷ 2 ∷ 1 ∷ 0 ∷ 2 ∷ 0 ∷ 2 ∷ []) .0 ≡ tooMany 3
-unfolding verdict? find turned-down inside? judged? decLe decLt Dec·and sum figure
+unfolding verdict? find rejected inside? judged? decLe decLt Dec·and sum figure
 three-ticks = refl
 
 five-ticks : verdict? published (0 ∷ 2 ∷ 1 ∷ 0 ∷ 2 ∷ 0 ∷ 1 ∷ []) .0 ≡ tooFew 5
-unfolding verdict? find turned-down inside? judged? decLe decLt Dec·and sum figure
+unfolding verdict? find rejected inside? judged? decLe decLt Dec·and sum figure
 five-ticks = refl
 
 -- A window that would reach before the first tick is not judged.
 too-early : verdict? (pairOf (9 ∷ 9 ∷ []) (0 ∷ 5 ∷ [])) (1 ∷ []) .0 ≡ passed
-unfolding verdict? find turned-down inside? judged? decLe decLt Dec·and sum figure
+unfolding verdict? find rejected inside? judged? decLe decLt Dec·and sum figure
 too-early = refl
 
 -- The shorter window decides, here with too few before the longer has too many.
 shorter-first : verdict? (pairOf (9 ∷ 3 ∷ []) (2 ∷ 0 ∷ [])) (3 ∷ 1 ∷ []) .0 ≡ tooFew 1
-unfolding verdict? find turned-down inside? judged? decLe decLt Dec·and sum figure
+unfolding verdict? find rejected inside? judged? decLe decLt Dec·and sum figure
 shorter-first = refl
 
 -- In one window 'too many' is looked at first.
 many-first : verdict? (pairOf (1 ∷ []) (5 ∷ [])) (3 ∷ []) .0 ≡ tooMany 1
-unfolding verdict? find turned-down inside? judged? decLe decLt Dec·and sum figure
+unfolding verdict? find rejected inside? judged? decLe decLt Dec·and sum figure
 many-first = refl

@@ -56,8 +56,8 @@ module _ (p : Pair) (xs : List ℕ) where
       inr
       (find n)
 
-  unfoldable pub turned-down : (d : ℕ) → Shortest p xs d → (v : Verdict) × Right p xs v
-  turned-down d s =
+  unfoldable pub rejected : (d : ℕ) → Shortest p xs d → (v : Verdict) × Right p xs v
+  rejected d s =
       elim (decLt (upperAt p d) (last xs d)) [
         | yes h ↦ (tooMany d, (s, h))
         | no h ↦
@@ -65,7 +65,7 @@ module _ (p : Pair) (xs : List ℕ) where
       ]
 
   unfoldable pub verdict? : (v : Verdict) × Right p xs v
-  verdict? = ⊎-elim (λ all. (passed, λ d j. all d (j .within) j)) (λ s. turned-down (s .0) (s .1)) (find (horizon p))
+  verdict? = ⊎-elim (λ all. (passed, λ d j. all d (j .within) j)) (λ s. rejected (s .0) (s .1)) (find (horizon p))
 
   -- ---- and no other
   no-shorter : {d e : ℕ} → Shortest p xs d → Shortest p xs e → ¬ (d < e)

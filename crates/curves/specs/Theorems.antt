@@ -12,7 +12,7 @@ use Rattle.curves.specs.Rounds.{whole, cutOff, after, HasAfter, Crossed,
 abbrev pub Closes : Pair → Type 0
 Closes p = (n : ℕ) × (q : Pair) × Arrives whole p n q
 
--- ---- 1. The rounds of every pair arrive or cross: one of the two, and once.
+-- ---- The rounds of every pair arrive or cross: one of the two, and once.
 abbrev pub ArrivesOrCrosses : Type 0
 ArrivesOrCrosses = (p : Pair) → Closes p ⊎ ((n : ℕ) × Crosses whole p n)
 
@@ -29,21 +29,21 @@ CrossesOnce = (p : Pair) (m n : ℕ) → Crosses whole p m → Crosses whole p n
 abbrev pub RoundsWithinSlack : Type 0
 RoundsWithinSlack = (p q : Pair) (n : ℕ) → Arrives whole p n q → n ≤ slack p
 
--- ---- 2. Rounds, one or any number, keep exactly the same unbounded conforming streams; where they cross, no stream conforms.
+-- ---- Rounds, one or any number, keep exactly the same unbounded conforming streams; where they cross, no stream conforms.
 abbrev pub RoundsKeepStreams : Type 0
 RoundsKeepStreams = (p q : Pair) (n : ℕ) → HasAfter whole n p q → (s : ℕ → ℕ) → Conforms∞ p s ↔ Conforms∞ q s
 
 abbrev pub CrossedHasNoStream : Type 0
 CrossedHasNoStream = (p : Pair) (n : ℕ) → Crossed whole (after whole n p) → (s : ℕ → ℕ) → Conforms∞ p s → ⊥
 
--- ---- 3. Rounds with differences cut off at 0 arrive at the same, or cross, after as many rounds.
+-- ---- Rounds with differences cut off at 0 arrive at the same, or cross, after as many rounds.
 abbrev pub CutOffArrives : Type 0
 CutOffArrives = (p : Pair) (n : ℕ) (q : Pair) → Arrives whole p n q ↔ Arrives cutOff p n q
 
 abbrev pub CutOffCrosses : Type 0
 CutOffCrosses = (p : Pair) (n : ℕ) → Crosses whole p n ↔ Crosses cutOff p n
 
--- ---- 8. The closure is causal, and a pair is causal exactly where it is its own closure, which then takes no round.
+-- ---- The closure is causal, and a pair is causal exactly where it is its own closure, which then takes no round.
 abbrev pub ClosureIsCausal : Type 0
 ClosureIsCausal = (p q : Pair) (n : ℕ) → Arrives whole p n q → Causal q
 
@@ -53,13 +53,13 @@ CausalIffOwnClosure = (p : Pair) → Causal p ↔ ((n : ℕ) × Arrives whole p 
 abbrev pub CausalTakesNoRound : Type 0
 CausalTakesNoRound = (p : Pair) → Causal p → Arrives whole p 0 p
 
--- ---- 9. One more tick: a finite stream that conforms to a causal pair has an admissible range, and goes on with the counts of it alone.
+-- ---- One more tick: a finite stream that conforms to a causal pair has an admissible range, and goes on with the counts of it alone.
 abbrev pub OneMoreTick : Type 0
 OneMoreTick =
     (p : Pair) (xs : List ℕ) → 1 ≤ horizon p → Causal p → Conforms p xs
     → (r : Range p xs) × ((x : ℕ) → Conforms p (then xs x) ↔ ((r .lo ≤ x) × (x ≤ r .hi)))
 
--- ---- 10. Whatever the figures: where the horizon is at most 2^k, no more than k + 1 rounds are run, and by then they arrive or cross.
+-- ---- Whatever the figures: where the horizon is at most 2^k, no more than k + 1 rounds are run, and by then they arrive or cross.
 abbrev pub RunsWithinLogarithm : Type 0
 RunsWithinLogarithm = (p : Pair) (k n : ℕ) → horizon p ≤ 2 ^ k → Runs whole p n → n ≤ k + 1
 

@@ -1,4 +1,4 @@
--- Laws over plain variables for the counts that the next tick can have: what a turn of the loop keeps, and what a look answers.
+-- Laws over plain variables for the counts that the next tick can have: what a turn of the loop keeps, and what the range answers.
 -- Assumes nothing.
 use Rattle.laws.proofs.Base.{ℕ, suc, _+_, _-_, _%_, _≤_, _<_, min, max, _≡_, sym, ap, _∙_, List, _↔_, le-refl, add-one, arith, length, getD}
 use Rattle.curves.specs.Pairs.{Pair, pairOf, figure}
@@ -110,7 +110,7 @@ chosen-is lo hi choice = ap (λ k. lo + choice % k) (add-one (hi - lo))
 pub chosen-below : (lo hi choice : ℕ) → lo ≤ hi → lo + choice % (hi - lo + 1) ≤ hi
 chosen-below lo hi choice h = omega (arith, chosen-is lo hi choice, chosen-within (ends lo hi) choice h .1)
 
--- ---- what a look answers
+-- ---- what the range answers
 module _ (v : View) (L : Legal v) (l : Limits) (b : Limited v l) where
   -- Where there is a count, the largest is within the limit, and so are all.
   pub limits-small : Small l
@@ -118,7 +118,7 @@ module _ (v : View) (L : Legal v) (l : Limits) (b : Limited v l) where
       let m : l .end - 1 ≤ figureLimit = count-limited v L (l .end - 1) (b (l .end - 1) .1 (omega arith, omega arith)) in
       omega arith
 
-  -- What is shown of the limits is what a look answers.
+  -- What is shown of the limits is what the range answers.
   pub shown-range : (a : Admissible) → Shows l a → rangeReply a ≡ ranging v
   unfolding range-from
   shown-range (admissible.Range lo hi) (some, is-lo, is-hi) =
@@ -127,7 +127,7 @@ module _ (v : View) (L : Legal v) (l : Limits) (b : Limited v l) where
   shown-range admissible.BadState s = absurd s
   shown-range admissible.NoCount none = sym (ranging-none v L (no-range (v .pair) (v .held) (l .lo) (l .end) b none))
 
--- A range that a look shows has a count, and none above the limit.
+-- A range that is shown has a count, and none above the limit.
 pub chooses-where : (v : View) (a : Admissible) → rangeReply a ≡ ranging v → ChoosesWhere a
 chooses-where v (admissible.Range lo hi) e =
     let (l, shown) = ranging-from v (ends lo hi) (sym e) in

@@ -12,7 +12,7 @@ use Rattle.generator.specs.Generating.{rangeQuestions, Ends, ranging, ch
 use Rattle.generator.specs.Promises.{GeneratorTicked}
 use Rattle.generator.specs.Calls.{viewAfter}
 
--- ---- a look and a tick
+-- ---- the range and a tick
 abbrev pub ends : ℕ → ℕ → Ends
 ends a b = record { lo = a; hi = b }
 
@@ -31,7 +31,7 @@ pub ranging-none : (v : View) → Legal v → ¬ Range (v .pair) (v .held) → r
 unfolding ranging
 ranging-none v l n = said-no (rangeQuestions v) _ refusal 13 (inr (l, inl (refl, n)))
 
--- A look that shows bounds shows those of the range.
+-- The ends that are shown are those of the admissible range.
 pub ranging-from : (v : View) (b : Ends) → ranging v ≡ result b
     → Legal v × ((r : Range (v .pair) (v .held)) × (ends (r .lo) (r .hi) ≡ b))
 unfolding ranging

@@ -26,12 +26,12 @@ sendings v [] = []
 sendings v (choice ∷ choices) = sending v choice ∷ sendings (viewAfter (sending v choice) v) choices
 
 -- ---- any results that the promises allow
--- A call: a tick with its choice, or a look; and what came back.
+-- A call: a tick with its choice, or one for the range (document 01's look); and what came back.
 pub data Call : Type 0 where
   ticked : ℕ → Sent → Call
   ranged : Admissible → Call
 
--- A look leaves the state as it was.
+-- A call for the range leaves the state as it was.
 abbrev pub Calls : Generator → List Call → Type 0
 Calls g [] = Unit {0}
 Calls g (ticked choice r ∷ cs) = GeneratorTicked g choice r × Calls (r .next) cs

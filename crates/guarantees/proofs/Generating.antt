@@ -18,7 +18,7 @@ use Rattle.generator.specs.Generating.{ranging, sending}
 use Rattle.generator.specs.Calls.{viewAfter, sendings, ticked, ranged}
 use Rattle.generator.proofs.Said.{ends, ranging-range, ranging-none, ranging-from, count-limited, chosen-within, sent-from}
 use Rattle.generator.proofs.Said.{generator-next}
-use Rattle.guarantees.specs.Exact.{Passes, SmallestAndLargest, SendsIffPasses, NoCountIffNonePasses, RangeShowsExtremes, SendsConforming}
+use Rattle.guarantees.specs.Exact.{PassesCount, SmallestAndLargest, SendsIffPasses, NoCountIffNonePasses, RangeShowsExtremes, SendsConforming}
 use Rattle.guarantees.specs.Exact.{EqualGeneratorsAgree, EqualGeneratorsRange, CallsAreSendings}
 use Rattle.guarantees.proofs.Total.{ranging-refused, sending-refused}
 use Rattle.guarantees.proofs.Held.{heldOf, held-fresh, held-added, held-legal, opened-positive}
@@ -26,7 +26,7 @@ use Rattle.guarantees.proofs.Monitoring.{answers-right}
 
 -- ---- on a legal history
 module _ (v : View) (l : Legal v) where
-  passes-iff : (x : ℕ) → Passes v x ↔ Keeps (v .pair) (then (v .held) x)
+  passes-iff : (x : ℕ) → PassesCount v x ↔ Keeps (v .pair) (then (v .held) x)
   passes-iff x = answers-right v x l passed
 
   -- The choice x − lo sends x.
@@ -54,7 +54,7 @@ pub no-count-iff-none-passes : NoCountIffNonePasses
 no-count-iff-none-passes v l =
     (none, λ choice. Iff·trans (sending-refused v choice 13) (Iff·trans (Iff·symm (ranging-refused v 13)) none))
   where
-    none : (ranging v ≡ refusal 13) ↔ ((x : ℕ) → ¬ Passes v x)
+    none : (ranging v ≡ refusal 13) ↔ ((x : ℕ) → ¬ PassesCount v x)
     none = (
       λ e x q.
           let r = keeps-has-range (v .pair) (v .held) (l .lengths .0) x (passes-iff v l x .0 q) in

@@ -17,7 +17,7 @@ use Rattle.curves.proofs.Asked.{said-yes, yes-append, yes-parts}
 use Rattle.curves.proofs.Arrival.{never-both, crossed?, equal?}
 use Rattle.curves.proofs.Computed.{left?, left, same?, runs?, arrives?, arrives-computed, crosses?, crosses-by?, crosses-by}
 use Rattle.curves.proofs.NextTick.{range-from, range?}
-use Rattle.curves.proofs.Verdicts.{inside?, judged?, find, turned-down, verdict?}
+use Rattle.curves.proofs.Verdicts.{inside?, judged?, find, rejected, verdict?}
 use Rattle.closure.specs.Theorems.{PassesFour}
 use Rattle.closure.proofs.Said.{refused-is, closed-is, fifth}
 use Rattle.csv.specs.Text.{Bytes, records, fields}
@@ -88,7 +88,7 @@ holds (goesOn p xs a) (ok, pass, shown) =
 pub marked-figures : MarkedFigures
 unfolding markedCases publishedTriples opens? ask ⊎-map every every? decLe ℕ-discrete Dec·and left? crossed? equal? same? runs? arrives?
     crosses? crosses-by? records fields valueAfter named each? digit? numeral? wellFormed? inRange? Dec·not equal-lists? fold table
-    figure newFigure round figuresOf after rulings addedAll judging ranging legal? verdict? find turned-down inside? judged? range?
+    figure newFigure round figuresOf after rulings addedAll judging ranging legal? verdict? find rejected inside? judged? range?
     range-from decLt sum
 marked-figures =
     let c : T true × T true = (tt, tt) in

@@ -13,7 +13,7 @@ use Rattle.history.specs.Opening.{opening, fresh}
 use Rattle.monitor.specs.Monitoring.{MonitorView, monitorView, Ruling, judged, alreadyFailed, judging}
 use Rattle.monitor.specs.Calls.{afterTick, afterTicks, rulings}
 use Rattle.monitor.proofs.Said.{judging-failed, ruling-is, ruling-right, monitor-next}
-use Rattle.guarantees.specs.Exact.{unfailed, Passes, RejectsIffOutside, AnswersRight, ConformsIffAllPass, RightOfWholeStream}
+use Rattle.guarantees.specs.Exact.{unfailed, PassesCount, RejectsIffOutside, AnswersRight, ConformsIffAllPass, RightOfWholeStream}
 use Rattle.guarantees.specs.Exact.{NothingPassesAfter, TicksAreRulings, EqualMonitorsAgree}
 use Rattle.guarantees.proofs.Held.{heldOf, held-fresh, held-added, held-legal, opened-positive}
 
@@ -28,7 +28,7 @@ rejects-iff-outside v x l =
     ys : List ℕ
     ys = then (v .held) x
 
-    go : ¬ Passes v x → (w : Verdict) → Right (v .pair) ys w → (d : ℕ) × Judged (v .pair) ys d × (¬ Inside (v .pair) d (last ys d))
+    go : ¬ PassesCount v x → (w : Verdict) → Right (v .pair) ys w → (d : ℕ) × Judged (v .pair) ys d × (¬ Inside (v .pair) d (last ys d))
     go n passed r = absurd (n (ruling-is v x l passed r))
     go n (tooMany d) r = (d, r .0 .judged, r .0 .outside)
     go n (tooFew d) r = (d, r .0 .judged, r .0 .outside)
@@ -46,7 +46,7 @@ failed-stays v l (x ∷ xs) =
 
 -- ---- over a whole stream
 module _ (p : Pair) (o : opening p ≡ result tt) where
-  -- The monitor after the stream xs, none of it turned down.
+  -- The monitor after the stream xs, none of it rejected.
   abbrev after : List ℕ → MonitorView
   after xs = unfailed (heldOf p xs)
 

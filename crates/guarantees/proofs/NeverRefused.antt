@@ -34,7 +34,7 @@ opens-on-closure p found g o a = a .answer ∙ closure-opens p found g
 
 -- ---- on a causal pair
 module _ (q : Pair) (o : opening q ≡ result tt) (causal : Causal q) where
-  -- A conforming stream can go on, so a look shows a range, of which a tick sends a count.
+  -- A conforming stream can go on, so a range is shown, of which a tick sends a count.
   shows : (v : View) (ys : List ℕ) → v ≡ heldOf q ys → Conforms q ys → (b : Ends) × (ranging v ≡ result b)
   shows v ys s c =
       let h = opened-positive q o in

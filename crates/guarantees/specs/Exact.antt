@@ -31,15 +31,15 @@ abbrev pub unfailed : View → MonitorView
 unfailed v = monitorView v false
 
 -- It passes the count x.
-abbrev pub Passes : View → ℕ → Type 0
-Passes v x = judging (unfailed v) x ≡ result (judged passed)
+abbrev pub PassesCount : View → ℕ → Type 0
+PassesCount v x = judging (unfailed v) x ≡ result (judged passed)
 
 -- ---- the monitor, in any legal state
 -- It rejects a tick (document 01: turns it down) exactly when some window that ends there is outside its figures.
 abbrev pub RejectsIffOutside : Type 0
 RejectsIffOutside =
     (v : View) (x : ℕ) → Legal v
-    → (¬ Passes v x) ↔ ((d : ℕ) × Judged (v .pair) (then (v .held) x) d × (¬ Inside (v .pair) d (last (then (v .held) x) d)))
+    → (¬ PassesCount v x) ↔ ((d : ℕ) × Judged (v .pair) (then (v .held) x) d × (¬ Inside (v .pair) d (last (then (v .held) x) d)))
 
 -- It answers the right verdict, which names the shortest such window.
 abbrev pub AnswersRight : Type 0
@@ -70,21 +70,21 @@ NothingPassesAfter =
 -- Some choice sends a count exactly when the monitor would pass it.
 abbrev pub SendsIffPasses : Type 0
 SendsIffPasses =
-    (v : View) → Legal v → (x : ℕ) → ((choice : ℕ) × (choice ≤ countLimit) × (sending v choice ≡ result x)) ↔ Passes v x
+    (v : View) → Legal v → (x : ℕ) → ((choice : ℕ) × (choice ≤ countLimit) × (sending v choice ≡ result x)) ↔ PassesCount v x
 
 -- The range, and a tick with any choice, are refused with 13 exactly when it would pass none.
 abbrev pub NoCountIffNonePasses : Type 0
 NoCountIffNonePasses =
     (v : View) → Legal v
-    → ((ranging v ≡ refusal 13) ↔ ((x : ℕ) → ¬ Passes v x))
-    × ((choice : ℕ) → (sending v choice ≡ refusal 13) ↔ ((x : ℕ) → ¬ Passes v x))
+    → ((ranging v ≡ refusal 13) ↔ ((x : ℕ) → ¬ PassesCount v x))
+    × ((choice : ℕ) → (sending v choice ≡ refusal 13) ↔ ((x : ℕ) → ¬ PassesCount v x))
 
 -- The range shows the smallest and the largest that it would pass.
 pub record SmallestAndLargest (v : View) (b : Ends) : Type 0 where
-  pub lo-passes : Passes v (b .lo)
-  pub hi-passes : Passes v (b .hi)
-  pub smallest : (x : ℕ) → Passes v x → b .lo ≤ x
-  pub largest : (x : ℕ) → Passes v x → x ≤ b .hi
+  pub lo-passes : PassesCount v (b .lo)
+  pub hi-passes : PassesCount v (b .hi)
+  pub smallest : (x : ℕ) → PassesCount v x → b .lo ≤ x
+  pub largest : (x : ℕ) → PassesCount v x → x ≤ b .hi
 
 abbrev pub RangeShowsExtremes : Type 0
 RangeShowsExtremes = (v : View) → Legal v → (b : Ends) → (ranging v ≡ result b) ↔ SmallestAndLargest v b

@@ -30,8 +30,8 @@ fn try_length(n: usize)
 fn try_lists(n: usize, upper_figure: u32, lower_figure: u32)
     requires { ⌜ n ≤ 257 ⌝ }
 {
-    let upper = filled(upper_figure);
-    let lower = filled(lower_figure);
+    let upper = repeated(upper_figure);
+    let lower = repeated(lower_figure);
     io::write_all(STDOUT_FILENO, b"lists");
     numbers::show(n as u64);
     numbers::show_two(upper_figure as u64, lower_figure as u64);
@@ -41,8 +41,8 @@ fn try_lists(n: usize, upper_figure: u32, lower_figure: u32)
 
 // Closing the pair into lists that are longer, two ticks of a monitor, and two of a generator.
 fn try_pair(upper: &[u32], lower: &[u32]) {
-    let mut closed_upper = filled(7);
-    let mut closed_lower = filled(7);
+    let mut closed_upper = repeated(7);
+    let mut closed_lower = repeated(7);
     numbers::show(exports::calgedze_close(upper, lower, &mut closed_upper, &mut closed_lower));
     numbers::show_two(
         numbers::digest(&closed_upper),
@@ -56,7 +56,7 @@ fn try_pair(upper: &[u32], lower: &[u32]) {
     numbers::show(numbers::digest(&choices));
 }
 
-fn filled(figure: u32) -> [u32; ROOM]
+fn repeated(figure: u32) -> [u32; ROOM]
     ensures { λ r. ⌜ r ≡ replicate 257 figure ⌝ }
 {
     [figure; ROOM]

@@ -5,7 +5,7 @@ use Rattle.curves.specs.Streams.{sum}
 use Rattle.curves.specs.Pairs.{Pair, pairOf, figure}
 use Rattle.curves.specs.Ticks.{passed, tooMany}
 use Rattle.curves.specs.Questions.{ask, result, refusal}
-use Rattle.curves.proofs.Verdicts.{inside?, judged?, find, turned-down, verdict?}
+use Rattle.curves.proofs.Verdicts.{inside?, judged?, find, rejected, verdict?}
 use Rattle.history.specs.States.{View, legal?}
 use Rattle.monitor.specs.Monitoring.{monitorView, judging, judged, alreadyFailed}
 use Rattle.monitor.specs.Calls.{rulings}
@@ -21,11 +21,11 @@ some = record { pair = pair; held = 2 ∷ 1 ∷ [] }
 abbrev overfull : View
 overfull = record { pair = pair; held = 2 ∷ 1 ∷ 0 ∷ 2 ∷ [] }
 
--- A tick turned down is not added, and nothing passes after it.
+-- A rejected tick is not added, and nothing passes after it.
 fails-for-good
     : rulings (monitorView some false) (2 ∷ 3 ∷ 0 ∷ [])
     ≡ result (judged passed) ∷ result (judged (tooMany 1)) ∷ result alreadyFailed ∷ []
-unfolding rulings judging ask legal? ⊎-map every every? Dec·and decLe decLt figure verdict? find turned-down inside? judged? sum
+unfolding rulings judging ask legal? ⊎-map every every? Dec·and decLe decLt figure verdict? find rejected inside? judged? sum
 fails-for-good = refl
 
 -- 12 comes before 'already failed'.

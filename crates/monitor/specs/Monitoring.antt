@@ -1,4 +1,4 @@
--- A tick of the monitor (document 01, "Monitor and maker").
+-- A tick of the monitor, document 01's line monitor ("Monitor and maker").
 use Prim.Native.Nat.{ℕ}
 use mathlib.Core.Path.{_≡_}
 use mathlib.Core.Bool.{Bool, true, false, cond}

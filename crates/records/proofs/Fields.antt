@@ -9,7 +9,7 @@ use Rattle.csv.proofs.Splitting.{rest-is, fields-first, field-short}
 use Rattle.csv.specs.Records.{WellFormed}
 use Rattle.records.specs.Recording.{recording}
 use Rattle.records.specs.Answers.{recordReply}
-use Rattle.records.specs.Steps.{firstField, Numbered, Ranged, Numerals, Figured}
+use Rattle.records.specs.Steps.{firstField, Numbered, RangeChecked, Numerals, Figured}
 use Rattle.records.specs.declared.Number.the-variants.{Value}
 use Rattle.records.specs.declared.Record.{Record}
 use Rattle.records.specs.declared.Record.the-variants.{Spells, Malformed, OutOfRange}
@@ -33,10 +33,10 @@ no-numeral f n k = n (k .digits)
 -- Three fields, by what their numbers were found to be.
 pub figured
     : (f g h : Bytes) (w l m n : ℕ) → Numbered f (Value w) → Numbered g (Value l) → Numbered h (Value m)
-    → (v : Record) → Ranged w l m n v → Figured f g h n v
+    → (v : Record) → RangeChecked w l m n v → Figured f g h n v
 figured f g h w l m n x y z v q = go v (rw (x .1, y .1, z .1) at q)
   where
-    go : (v : Record) → Ranged (value f) (value g) (value h) n v → Figured f g h n v
+    go : (v : Record) → RangeChecked (value f) (value g) (value h) n v → Figured f g h n v
     go (Spells w′ l′ m′ n′) k = ((x .0, y .0, z .0), k)
     go Malformed k = absurd k
     go OutOfRange k = ((x .0, y .0, z .0), k)

@@ -25,16 +25,16 @@ Numbered f (Value n) = Numeral f × (n ≡ value f)
 Numbered f NoNumeral = ¬ Numeral f
 
 -- What the figures of a record of n bytes were found to be.
-abbrev pub Ranged : ℕ → ℕ → ℕ → ℕ → Record → Type 0
-Ranged w l m n (Spells w′ l′ m′ n′) = InRange (triple w l m) × (w′ ≡ w) × (l′ ≡ l) × (m′ ≡ m) × (n′ ≡ n)
-Ranged w l m n Malformed = ⊥
-Ranged w l m n OutOfRange = ¬ InRange (triple w l m)
+abbrev pub RangeChecked : ℕ → ℕ → ℕ → ℕ → Record → Type 0
+RangeChecked w l m n (Spells w′ l′ m′ n′) = InRange (triple w l m) × (w′ ≡ w) × (l′ ≡ l) × (m′ ≡ m) × (n′ ≡ n)
+RangeChecked w l m n Malformed = ⊥
+RangeChecked w l m n OutOfRange = ¬ InRange (triple w l m)
 
 -- What the three fields of a record of n bytes were found to be.
 abbrev pub Numerals : Bytes → Bytes → Bytes → Type 0
 Numerals f g h = Numeral f × Numeral g × Numeral h
 
 abbrev pub Figured : Bytes → Bytes → Bytes → ℕ → Record → Type 0
-Figured f g h n (Spells w l m k) = Numerals f g h × Ranged (value f) (value g) (value h) n (Spells w l m k)
+Figured f g h n (Spells w l m k) = Numerals f g h × RangeChecked (value f) (value g) (value h) n (Spells w l m k)
 Figured f g h n Malformed = ¬ Numerals f g h
-Figured f g h n OutOfRange = Numerals f g h × Ranged (value f) (value g) (value h) n OutOfRange
+Figured f g h n OutOfRange = Numerals f g h × RangeChecked (value f) (value g) (value h) n OutOfRange

@@ -7,7 +7,7 @@ ghost use Rattle.laws.specs.Tests.{Tells};
 ghost use Rattle.csv.specs.Records.{firstRecord};
 ghost use Rattle.records.specs.Recording.{recording};
 ghost use Rattle.records.specs.Answers.{recordReply};
-ghost use Rattle.records.specs.Steps.{LineEnd, firstField, Numbered, Ranged, Figured};
+ghost use Rattle.records.specs.Steps.{LineEnd, firstField, Numbered, RangeChecked, Figured};
 
 // The longest window, the largest least or most, and the most digits of a field.
 const MAX_WINDOW: u32 = 256;
@@ -154,7 +154,7 @@ fn parse_number(field: &[u8]) -> Number
 
 // The record's constraint, if its figures are in range.
 fn check_range(window: u32, least: u32, most: u32, length: usize) -> Record
-    ensures { λ r. ⌜ Ranged window least most length r ⌝ }
+    ensures { λ r. ⌜ RangeChecked window least most length r ⌝ }
 {
     if window < 1 {
         return Record::OutOfRange;

@@ -66,7 +66,7 @@ pub fn render_refusal(number: u32) -> Rendered
     ensures { λ r. ⌜ renderingAnswer r ≡ written (refusalLine number) ⌝ }
 {
     let mut bytes = blank();
-    let length = write::refusal(number, &mut bytes);
+    let length = write::refusal_line(number, &mut bytes);
     Rendered {
         answer: Rendering::Written,
         length,

@@ -22,7 +22,7 @@ pub(crate) fn record(window: u32, least: u32, most: u32, out: &mut [u8], at: usi
 }
 
 // The line that tells a refusal.
-pub(crate) fn refusal(n: u32, out: &mut [u8]) -> usize
+pub(crate) fn refusal_line(n: u32, out: &mut [u8]) -> usize
     requires { ⌜ 10 + length (decimal n) ≤ length (now out) ⌝ }
     ensures { λ r. ⌜ Wrote (now (out .entry)) 0 (refusalLine n) (now (out .exit)) r ⌝ }
 {

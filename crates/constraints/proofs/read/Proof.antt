@@ -6,7 +6,7 @@ use Rattle.csv.specs.Text.{Bytes, header}
 use Rattle.constraints.specs.Reading.{later, question6}
 use Rattle.constraints.specs.Steps.{ScannedAs}
 use Rattle.constraints.specs.declared.Fault.{Fault}
-use Rattle.constraints.specs.declared.Fault.the-variants.{Sound, Form, Range, Again}
+use Rattle.constraints.specs.declared.Fault.the-variants.{Sound, Malformed, OutOfRange, Repeated}
 use Rattle.constraints.proofs.Answered.{no-6, scanned, no-record, bounded, delivered-is}
 use Rattle.constraints.proofs.read.Statement.{statement}
 use Rattle.constraints.proofs.read.Tie as tie
@@ -51,15 +51,15 @@ returns-3 c =
 
 returns-4 : tie.Need-returns-4
 returns-4 c =
-    let k = c .before .before .before in no-record _ _ (asked (k .before)) 7 (of-records k Form (c .enum-told2 .given .1))
+    let k = c .before .before .before in no-record _ _ (asked (k .before)) 7 (of-records k Malformed (c .enum-told2 .given .1))
 
 returns-5 : tie.Need-returns-5
 returns-5 c =
-    let k = c .before .before .before in no-record _ _ (asked (k .before)) 8 (of-records k Range (c .enum-told3 .given .1))
+    let k = c .before .before .before in no-record _ _ (asked (k .before)) 8 (of-records k OutOfRange (c .enum-told3 .given .1))
 
 returns-6 : tie.Need-returns-6
 returns-6 c =
-    let k = c .before .before .before in no-record _ _ (asked (k .before)) 9 (of-records k Again (c .enum-told4 .given .1))
+    let k = c .before .before .before in no-record _ _ (asked (k .before)) 9 (of-records k Repeated (c .enum-told4 .given .1))
 
 pub read-spec : {M : Type 1} → statement M
 read-spec =

@@ -18,7 +18,7 @@ start c = c .before .before .before
 known : (c : tie.After-known-told) → ChoosesWhere (Range (c .before .admissible .given .0 .0) (c .before .admissible .given .0 .1 .0))
 known c = subst ChoosesWhere (c .before .admissible .given .1) (start c .pre)
 
--- What is promised, for what the look has shown.
+-- What is promised, for the range that was shown.
 abbrev For : ℕ → Reply ℕ → Admissible → Type 0
 For choice reply a = reply ≡ sentFrom (rangeReply a) choice
 

@@ -2,13 +2,13 @@
 -- Assumes nothing.
 use Rattle.laws.proofs.Base.{_+_, _-_, _*_, _≤_, arith, needs, length, getD}
 use Rattle.curves.specs.Streams.{countLimit}
-use Rattle.monitor.proofs.Judging.{Reached, reached-none, reached-more, found-many, found-few, found-none}
+use Rattle.monitor.proofs.Judging.{JudgedTo, judged-none, judged-more, found-many, found-few, found-none}
 use Rattle.monitor.proofs.judge.Statement.{statement}
 use Rattle.monitor.proofs.judge.Tie as tie
 
 abbrev Inv-loop : tie.InvT-loop
 Inv-loop upper lower ticks count held sum₀ d₀ sum d =
-    (sum ≤ (d + 1) * countLimit) × Reached upper lower ticks count sum d
+    (sum ≤ (d + 1) * countLimit) × JudgedTo upper lower ticks count sum d
 
 abbrev μ-loop : tie.MeasureT-loop
 μ-loop upper lower ticks count held sum₀ d₀ sum d = length ticks - d
@@ -28,7 +28,7 @@ loop-again : tie.Need-loop-again Inv-loop μ-loop
 loop-again c =
     let turn = head c in (
       omega (arith, added c),
-      reached-more _ _ _ _ (turn .before .pre) _ _ (turn .loop .inv .1)
+      judged-more _ _ _ _ (turn .before .pre) _ _ (turn .loop .inv .1)
           (omega arith) (omega arith) (omega arith),
     )
 
@@ -54,7 +54,7 @@ judge-spec =
     (tie.spec
     Inv-loop
     μ-loop
-    (λ c. (search needs, reached-none _ _ _ _))
+    (λ c. (search needs, judged-none _ _ _ _))
     (λ c. search needs)
     (λ c. search needs)
     (λ c. omega (arith, c .shared-slice-known .given (c .before .loop .d)))

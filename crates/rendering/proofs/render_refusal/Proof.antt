@@ -7,8 +7,8 @@ use Rattle.rendering.proofs.Answered.{written-as}
 use Rattle.rendering.proofs.render_refusal.Statement.{statement}
 use Rattle.rendering.proofs.render_refusal.Tie as tie
 
-refusal-requires : tie.Need-refusal-requires
-refusal-requires c κs =
+refusal-line-requires : tie.Need-refusal-line-requires
+refusal-line-requires c κs =
     let s = c .before .before in
     let few : s .args .number ≤ 4_294_967_295 = search needs in
     omega (arith, number-fits (s .args .number) few, ap length (c .before .blank .ensures), length-replicate {A = ℕ} longest 0)
@@ -18,7 +18,7 @@ returns c =
     let blank = c .before .before .before in
     let s = blank .before in
     let few : s .args .number ≤ 4_294_967_295 = search needs in
-    written-as _ _ _ _ (refusal-fits (s .args .number) few) (blank .blank .ensures) (c .before .refusal .ensures)
+    written-as _ _ _ _ (refusal-fits (s .args .number) few) (blank .blank .ensures) (c .before .refusal-line .ensures)
 
 pub render-refusal-spec : {M : Type 1} → statement M
-render-refusal-spec = tie.close (tie.spec (λ c κs. search needs) (λ c. search needs) refusal-requires returns)
+render-refusal-spec = tie.close (tie.spec (λ c κs. search needs) (λ c. search needs) refusal-line-requires returns)

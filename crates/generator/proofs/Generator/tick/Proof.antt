@@ -1,4 +1,4 @@
--- `generator::Generator::tick` meets its promise: what is sent and the next state follow from what a look shows.
+-- `generator::Generator::tick` meets its promise: what is sent and the next state follow from the range.
 -- Assumes nothing.
 use Rattle.laws.proofs.Base.{_≡_, ap, _∙_, subst, needs}
 use Rattle.history.specs.States.{viewOf}
@@ -11,7 +11,7 @@ use Rattle.generator.proofs.Generator.tick.Tie as tie
 choose-requires : tie.Need-choose-requires
 choose-requires c κs = chooses-where (viewOf (c .before .args .self .history)) (c .range .result) (c .range .ensures)
 
--- The count is chosen from what the look shows.
+-- The count is chosen from the range.
 sent : (a : tie.After-choose)
     → sendingReply (a .choose .result) ≡ sending (viewOf (a .before .before .args .self .history)) (a .before .before .args .choice)
 sent a = a .choose .ensures ∙ ap (λ b. sentFrom b (a .before .before .args .choice)) (a .before .range .ensures)

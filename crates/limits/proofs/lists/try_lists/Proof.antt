@@ -16,12 +16,12 @@ part n x xs e l = sym (length-take-le n xs (omega (arith, ap length e ∙ length
 slice-aggregate-try-pair : tie.Need-slice-aggregate-try-pair
 slice-aggregate-try-pair c =
     let made = c .before .before .before .before .before .before in
-    part _ _ _ (made .filled .ensures) (made .before .pre)
+    part _ _ _ (made .repeated .ensures) (made .before .pre)
 
 slice-aggregate-try-pair-2 : tie.Need-slice-aggregate-try-pair-2
 slice-aggregate-try-pair-2 c =
     let made = c .before .before .before .before .before .before in
-    part _ _ _ (made .filled2 .ensures) (made .before .before .pre)
+    part _ _ _ (made .repeated2 .ensures) (made .before .before .pre)
 
 pub try-lists-spec : {M : Type 1} → statement M
 try-lists-spec =
