@@ -62,15 +62,15 @@ module _ (h : History) (A : Arrays h) (L : Legal (viewOf h)) where
   pub some-window : 1 ≤ h .horizon
   some-window = omega (arith, legal-room h L .fewer)
 
-  -- The places for ticks: one fewer than the horizon.
-  pub places-room : h .horizon - 1 ≤ length (h .ticks)
-  places-room = omega (arith, A .held, legal-room h L .within)
+  pub tick-for-each : h .horizon ≤ length (h .ticks)
+  tick-for-each = omega (arith, A .held, legal-room h L .within)
 
+  -- The places for ticks: one fewer than the horizon.
   abbrev places : List ℕ
   places = take (h .horizon - 1) (h .ticks)
 
-  pub places-length : h .horizon - 1 ≡ length places
-  places-length = sym (length-take-le (h .horizon - 1) (h .ticks) places-room)
+  places-length : length places ≡ h .horizon - 1
+  places-length = length-take-le (h .horizon - 1) (h .ticks) (omega (arith, tick-for-each))
 
   -- What is held after a push into them are the last ticks with the new one.
   held-newest : (x : ℕ) → heldWith places (h .held) x ≡ newest (horizon (viewOf h .pair) - 1) (then (viewOf h .held) x)

@@ -47,12 +47,10 @@ impl Monitor {
         let start = History::open(upper, lower);
         let opening = start.opening;
         let history = start.history;
+        let failed = false;
         OpenedMonitor {
             opening,
-            state: Monitor {
-                history,
-                failed: false,
-            },
+            state: Monitor { history, failed },
         }
     }
 
