@@ -3,10 +3,11 @@
  * curves, judge a stream of counts, generate one. Link libexports.a, which `rt staticlib exports` writes.
  *
  * Every call ends, whatever the lengths and contents of its lists. A list is a pointer and a number of entries; the pointer is never
- * null, not even for no entries, and a list that a call writes overlaps no other list of the call. Entry 0 of a list of figures is
- * that of the window of one tick.
+ * null, not even for no entries, and a list that a call writes overlaps no other list of the call. A pair is two lists of figures, the
+ * upper curve (ceilings) and the lower (leasts); entry 0 of each is that of the window of one tick.
  *
- * A refusal is a number from 1 to 13. It leaves every list as it was.
+ * A call is refused with a number from 1 to 11, and then every list stays as it was. A script's entries are the answers of calls of
+ * their own, one for each entry; what one of these is refused with stands in its entry, and the whole call is not refused by it.
  */
 #ifndef CALGEDZE_H
 #define CALGEDZE_H
@@ -25,16 +26,17 @@ typedef uint64_t calgedze_answer;
 #define CALGEDZE_VALUE(answer) ((uint32_t)(answer))
 
 /*
- * Closes the pair of `ceilings` and `leasts`; its H is their length. The closure goes to the first H entries of `upper` and `lower`,
- * the others stay as they are, and the value is the count of rounds that changed a figure, 9 at most. Refused with
- *   1  `ceilings` is not 1 to 256 long
- *   2  `leasts` has another length
- *   3  `upper` or `lower` is shorter
+ * Closes the pair of `upper` and `lower`; its H is their length. The closure goes to the first H entries of `closed_upper` and
+ * `closed_lower`, the others stay as they are, and the value is the count of rounds that changed a figure, 9 at most. Refused with
+ *   1  `upper` is not 1 to 256 long
+ *   2  `lower` has another length
+ *   3  `closed_upper` or `closed_lower` is shorter
  *   4  a figure is above 16,776,960
  *   5  no unbounded stream conforms to the pair
  */
-calgedze_answer calgedze_close(const uint32_t *ceilings, size_t ceilings_length, const uint32_t *leasts, size_t leasts_length,
-                               uint32_t *upper, size_t upper_length, uint32_t *lower, size_t lower_length);
+calgedze_answer calgedze_close(const uint32_t *upper, size_t upper_length, const uint32_t *lower, size_t lower_length,
+                               uint32_t *closed_upper, size_t closed_upper_length, uint32_t *closed_lower,
+                               size_t closed_lower_length);
 
 /*
  * Reads the pair that a constraint text stands for. It goes to the first H entries of `upper` and `lower`, the others stay as they are,
@@ -58,29 +60,36 @@ calgedze_answer calgedze_read(const uint8_t *text, size_t text_length, uint32_t 
  */
 size_t calgedze_report(const uint8_t *text, size_t text_length, uint8_t *output, size_t output_length);
 
-/* An entry of a script that a refusal stands in is this and the refusal's number. No count that is sent comes near it. */
-#define CALGEDZE_REFUSED 4000000000u
+/*
+ * A script: a monitor, or a generator, is opened on a pair and called once for each entry, in order, each time on the state that the
+ * call before it left. What the call gets is the entry, and what it answers takes the entry's place.
+ */
 
-/* Verdicts. The two that name a window are this and the window. */
+/* What a monitor answers to a count. The two that name a window are this and the window. */
 #define CALGEDZE_PASSED 0u
 #define CALGEDZE_TOO_MANY 1000u
 #define CALGEDZE_TOO_FEW 2000u
 #define CALGEDZE_ALREADY_FAILED 3000u
 
 /*
- * Opens a monitor on the pair of `ceilings` and `leasts` and gives it the counts of `script`, one tick after the other. Each is
- * overwritten with its verdict. Gives back 0; or 1, 2 or 4, as calgedze_close has them, and then the script stays as it is.
+ * An entry whose call was refused is this and the refusal's number: 13 for a choice where no count keeps every window that ends at the
+ * tick, which never happens on the curves of a closure. No other refusal comes up in a script. A count that is sent is at most 16,776,960.
  */
-uint32_t calgedze_judge(const uint32_t *ceilings, size_t ceilings_length, const uint32_t *leasts, size_t leasts_length,
-                        uint32_t *script, size_t script_length);
+#define CALGEDZE_REFUSED 4000000000u
 
 /*
- * Opens a generator on the pair of `ceilings` and `leasts` and gives it the choices of `script`, one tick after the other. Each is
- * overwritten with the count that is sent, or with CALGEDZE_REFUSED + 13 where there is none; on the curves of a closure there
- * always is one. Gives back 0; or 1, 2 or 4, as calgedze_close has them, and then the script stays as it is.
+ * Opens a monitor on the pair of `upper` and `lower` and gives it the counts of `script`. Gives back 0; or 1, 2 or 4, as calgedze_close
+ * has them, and then no tick was called and the script stays as it is.
  */
-uint32_t calgedze_generate(const uint32_t *ceilings, size_t ceilings_length, const uint32_t *leasts, size_t leasts_length,
-                           uint32_t *script, size_t script_length);
+uint32_t calgedze_judge(const uint32_t *upper, size_t upper_length, const uint32_t *lower, size_t lower_length, uint32_t *script,
+                        size_t script_length);
+
+/*
+ * Opens a generator on the pair of `upper` and `lower` and gives it the choices of `script`. Gives back 0; or 1, 2 or 4, as
+ * calgedze_close has them, and then no tick was called and the script stays as it is.
+ */
+uint32_t calgedze_generate(const uint32_t *upper, size_t upper_length, const uint32_t *lower, size_t lower_length, uint32_t *script,
+                           size_t script_length);
 
 #ifdef __cplusplus
 }

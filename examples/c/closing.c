@@ -16,19 +16,19 @@ static void print_list(const char *name, const uint32_t *list, size_t length)
 }
 
 /* Closes a pair and prints what comes of it. Gives back 1 where there is a closure. */
-static int close_and_print(const uint32_t *ceilings, const uint32_t *leasts, uint32_t *upper, uint32_t *lower, size_t horizon)
+static int close_and_print(const uint32_t *upper, const uint32_t *lower, uint32_t *closed_upper, uint32_t *closed_lower, size_t horizon)
 {
-    calgedze_answer answer = calgedze_close(ceilings, horizon, leasts, horizon, upper, horizon, lower, horizon);
+    calgedze_answer answer = calgedze_close(upper, horizon, lower, horizon, closed_upper, horizon, closed_lower, horizon);
 
-    print_list("ceilings", ceilings, horizon);
-    print_list("leasts", leasts, horizon);
+    print_list("upper", upper, horizon);
+    print_list("lower", lower, horizon);
     if (CALGEDZE_REFUSAL(answer) != 0) {
         printf("refused with %lu\n\n", (unsigned long)CALGEDZE_REFUSAL(answer));
         return 0;
     }
     printf("closed, rounds that changed a figure: %lu\n", (unsigned long)CALGEDZE_VALUE(answer));
-    print_list("ceilings", upper, horizon);
-    print_list("leasts", lower, horizon);
+    print_list("upper", closed_upper, horizon);
+    print_list("lower", closed_lower, horizon);
     printf("\n");
     return 1;
 }
@@ -64,24 +64,24 @@ static void judge_and_print(const uint32_t *upper, const uint32_t *lower, size_t
 int main(void)
 {
     /* At most 3 in three ticks and at least 5 in five leave one stream only: one a tick. */
-    const uint32_t ceilings[5] = {3, 6, 3, 12, 9}, leasts[5] = {0, 0, 0, 0, 5};
+    const uint32_t one_upper[5] = {3, 6, 3, 12, 9}, one_lower[5] = {0, 0, 0, 0, 5};
     /* No least is above its ceiling, yet no stream keeps these: 3 ticks need 4, and 2 ticks have 2 at most. */
-    const uint32_t few[3] = {2, 2, 5}, many[3] = {0, 0, 4};
+    const uint32_t no_upper[3] = {2, 2, 5}, no_lower[3] = {0, 0, 4};
     /* Closing finds that three ticks need one at least, since four need 3 and one has 2 at most. */
-    const uint32_t most[4] = {2, 3, 5, 5}, least[4] = {0, 0, 0, 3};
+    const uint32_t upper[4] = {2, 3, 5, 5}, lower[4] = {0, 0, 0, 3};
     uint32_t script[10] = {5, 7, 0, 2, 1, 4000000000u, 3, 0, 8, 6};
     uint32_t bad[6] = {2, 0, 0, 1, 1, 1};
-    uint32_t upper[5], lower[5];
+    uint32_t closed_upper[5], closed_lower[5];
 
-    close_and_print(ceilings, leasts, upper, lower, 5);
-    close_and_print(few, many, upper, lower, 3);
-    if (!close_and_print(most, least, upper, lower, 4))
+    close_and_print(one_upper, one_lower, closed_upper, closed_lower, 5);
+    close_and_print(no_upper, no_lower, closed_upper, closed_lower, 3);
+    if (!close_and_print(upper, lower, closed_upper, closed_lower, 4))
         return 1;
 
     /* On the curves of a closure there is always a count to send, so no entry of the script becomes a refusal. */
     print_list("choices", script, 10);
-    calgedze_generate(upper, 4, lower, 4, script, 10);
-    judge_and_print(upper, lower, 4, script, 10);
-    judge_and_print(upper, lower, 4, bad, 6);
+    calgedze_generate(closed_upper, 4, closed_lower, 4, script, 10);
+    judge_and_print(closed_upper, closed_lower, 4, script, 10);
+    judge_and_print(closed_upper, closed_lower, 4, bad, 6);
     return 0;
 }

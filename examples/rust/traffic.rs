@@ -4,14 +4,14 @@
 
 extern "C" {
     fn calgedze_close(
-        ceilings: *const u32,
-        ceilings_length: usize,
-        leasts: *const u32,
-        leasts_length: usize,
-        upper: *mut u32,
+        upper: *const u32,
         upper_length: usize,
-        lower: *mut u32,
+        lower: *const u32,
         lower_length: usize,
+        closed_upper: *mut u32,
+        closed_upper_length: usize,
+        closed_lower: *mut u32,
+        closed_lower_length: usize,
     ) -> u64;
     fn calgedze_read(
         text: *const u8,
@@ -22,18 +22,18 @@ extern "C" {
         lower_length: usize,
     ) -> u64;
     fn calgedze_judge(
-        ceilings: *const u32,
-        ceilings_length: usize,
-        leasts: *const u32,
-        leasts_length: usize,
+        upper: *const u32,
+        upper_length: usize,
+        lower: *const u32,
+        lower_length: usize,
         script: *mut u32,
         script_length: usize,
     ) -> u32;
     fn calgedze_generate(
-        ceilings: *const u32,
-        ceilings_length: usize,
-        leasts: *const u32,
-        leasts_length: usize,
+        upper: *const u32,
+        upper_length: usize,
+        lower: *const u32,
+        lower_length: usize,
         script: *mut u32,
         script_length: usize,
     ) -> u32;
@@ -43,10 +43,10 @@ extern "C" {
 #[derive(Debug)]
 struct Refusal(u32);
 
-/// The most and the least of the windows of 1, 2, 3 and so on ticks.
+/// The ceilings (upper curve) and the leasts (lower curve) of the windows of 1, 2, 3 and so on ticks.
 struct Curves {
-    ceilings: Vec<u32>,
-    leasts: Vec<u32>,
+    upper: Vec<u32>,
+    lower: Vec<u32>,
 }
 
 enum Verdict {
@@ -74,38 +74,38 @@ fn opened(number: u32) -> Result<(), Refusal> {
 
 fn read(text: &[u8]) -> Result<Curves, Refusal> {
     // No text names a window longer than 256 ticks.
-    let (mut ceilings, mut leasts) = (vec![0; 256], vec![0; 256]);
+    let (mut upper, mut lower) = (vec![0; 256], vec![0; 256]);
     // SAFETY: each pointer goes with the length of its list, and the two lists that are written are apart.
-    let answer = unsafe { calgedze_read(text.as_ptr(), text.len(), ceilings.as_mut_ptr(), 256, leasts.as_mut_ptr(), 256) };
+    let answer = unsafe { calgedze_read(text.as_ptr(), text.len(), upper.as_mut_ptr(), 256, lower.as_mut_ptr(), 256) };
     let horizon = value(answer)? as usize;
-    ceilings.truncate(horizon);
-    leasts.truncate(horizon);
-    Ok(Curves { ceilings, leasts })
+    upper.truncate(horizon);
+    lower.truncate(horizon);
+    Ok(Curves { upper, lower })
 }
 
 impl Curves {
     fn horizon(&self) -> usize {
-        self.ceilings.len()
+        self.upper.len()
     }
 
     /// The closed curves and the count of rounds that it took.
     fn close(&self) -> Result<(Curves, u32), Refusal> {
         let horizon = self.horizon();
         let mut closed = Curves {
-            ceilings: vec![0; horizon],
-            leasts: vec![0; horizon],
+            upper: vec![0; horizon],
+            lower: vec![0; horizon],
         };
-        let (upper, lower) = (closed.ceilings.as_mut_ptr(), closed.leasts.as_mut_ptr());
+        let (closed_upper, closed_lower) = (closed.upper.as_mut_ptr(), closed.lower.as_mut_ptr());
         // SAFETY: all four lists have `horizon` entries, and the two that are written are apart from the others.
         let answer = unsafe {
             calgedze_close(
-                self.ceilings.as_ptr(),
+                self.upper.as_ptr(),
                 horizon,
-                self.leasts.as_ptr(),
+                self.lower.as_ptr(),
                 horizon,
-                upper,
+                closed_upper,
                 horizon,
-                lower,
+                closed_lower,
                 horizon,
             )
         };
@@ -116,18 +116,18 @@ impl Curves {
     /// The counts that a generator sends for these choices.
     fn generate(&self, choices: &[u32]) -> Result<Vec<u32>, Refusal> {
         let mut script = choices.to_vec();
-        let (ceilings, leasts) = (self.ceilings.as_ptr(), self.leasts.as_ptr());
+        let (upper, lower) = (self.upper.as_ptr(), self.lower.as_ptr());
         // SAFETY: each pointer goes with the length of its list.
-        opened(unsafe { calgedze_generate(ceilings, self.horizon(), leasts, self.horizon(), script.as_mut_ptr(), script.len()) })?;
+        opened(unsafe { calgedze_generate(upper, self.horizon(), lower, self.horizon(), script.as_mut_ptr(), script.len()) })?;
         Ok(script)
     }
 
     /// What a monitor says of these counts.
     fn judge(&self, counts: &[u32]) -> Result<Vec<Verdict>, Refusal> {
         let mut script = counts.to_vec();
-        let (ceilings, leasts) = (self.ceilings.as_ptr(), self.leasts.as_ptr());
+        let (upper, lower) = (self.upper.as_ptr(), self.lower.as_ptr());
         // SAFETY: each pointer goes with the length of its list.
-        opened(unsafe { calgedze_judge(ceilings, self.horizon(), leasts, self.horizon(), script.as_mut_ptr(), script.len()) })?;
+        opened(unsafe { calgedze_judge(upper, self.horizon(), lower, self.horizon(), script.as_mut_ptr(), script.len()) })?;
         Ok(script.into_iter().map(verdict).collect())
     }
 }
@@ -142,7 +142,7 @@ fn verdict(entry: u32) -> Verdict {
 }
 
 fn print_curves(name: &str, curves: &Curves) {
-    println!("{name}: ceilings {:?}, leasts {:?}", curves.ceilings, curves.leasts);
+    println!("{name}: upper {:?}, lower {:?}", curves.upper, curves.lower);
 }
 
 fn print_verdicts(counts: &[u32], verdicts: &[Verdict]) {

@@ -5,29 +5,29 @@ use crate::fastest::{close_core, generate_core, judge_core, read_core};
 use crate::plain;
 
 /// What the questions refuse is no matter of speed.
-fn taken(ceilings: &[u32], leasts: &[u32]) -> bool {
-    plain::opening(ceilings, leasts) == 0
+fn taken(upper: &[u32], lower: &[u32]) -> bool {
+    plain::opening(upper, lower) == 0
 }
 
-pub fn close(ceilings: &[u32], leasts: &[u32], upper: &mut [u32], lower: &mut [u32]) -> u64 {
-    if !taken(ceilings, leasts) || upper.len().min(lower.len()) < ceilings.len() {
-        return plain::close(ceilings, leasts, upper, lower);
+pub fn close(upper: &[u32], lower: &[u32], closed_upper: &mut [u32], closed_lower: &mut [u32]) -> u64 {
+    if !taken(upper, lower) || closed_upper.len().min(closed_lower.len()) < upper.len() {
+        return plain::close(upper, lower, closed_upper, closed_lower);
     }
-    close_core(ceilings, leasts, upper, lower)
+    close_core(upper, lower, closed_upper, closed_lower)
 }
 
-pub fn judge(ceilings: &[u32], leasts: &[u32], script: &mut [u32]) -> u32 {
-    if !taken(ceilings, leasts) {
-        return plain::judge(ceilings, leasts, script);
+pub fn judge(upper: &[u32], lower: &[u32], script: &mut [u32]) -> u32 {
+    if !taken(upper, lower) {
+        return plain::judge(upper, lower, script);
     }
-    judge_core(ceilings, leasts, script)
+    judge_core(upper, lower, script)
 }
 
-pub fn generate(ceilings: &[u32], leasts: &[u32], script: &mut [u32]) -> u32 {
-    if !taken(ceilings, leasts) {
-        return plain::generate(ceilings, leasts, script);
+pub fn generate(upper: &[u32], lower: &[u32], script: &mut [u32]) -> u32 {
+    if !taken(upper, lower) {
+        return plain::generate(upper, lower, script);
     }
-    generate_core(ceilings, leasts, script)
+    generate_core(upper, lower, script)
 }
 
 pub fn read(text: &[u8], upper: &mut [u32], lower: &mut [u32]) -> u64 {
@@ -39,18 +39,18 @@ mod wide {
     use super::{close_core, generate_core, judge_core, read_core};
 
     #[target_feature(enable = "avx2")]
-    pub fn close(ceilings: &[u32], leasts: &[u32], upper: &mut [u32], lower: &mut [u32]) -> u64 {
-        close_core(ceilings, leasts, upper, lower)
+    pub fn close(upper: &[u32], lower: &[u32], closed_upper: &mut [u32], closed_lower: &mut [u32]) -> u64 {
+        close_core(upper, lower, closed_upper, closed_lower)
     }
 
     #[target_feature(enable = "avx2")]
-    pub fn judge(ceilings: &[u32], leasts: &[u32], script: &mut [u32]) -> u32 {
-        judge_core(ceilings, leasts, script)
+    pub fn judge(upper: &[u32], lower: &[u32], script: &mut [u32]) -> u32 {
+        judge_core(upper, lower, script)
     }
 
     #[target_feature(enable = "avx2")]
-    pub fn generate(ceilings: &[u32], leasts: &[u32], script: &mut [u32]) -> u32 {
-        generate_core(ceilings, leasts, script)
+    pub fn generate(upper: &[u32], lower: &[u32], script: &mut [u32]) -> u32 {
+        generate_core(upper, lower, script)
     }
 
     #[target_feature(enable = "avx2")]
@@ -68,9 +68,9 @@ pub fn with_avx2() -> Option<Contender> {
     // SAFETY: the machine has the instructions, as was just asked.
     Some(Contender {
         name: "with avx2",
-        close: |ceilings, leasts, upper, lower| unsafe { wide::close(ceilings, leasts, upper, lower) },
-        judge: |ceilings, leasts, script| unsafe { wide::judge(ceilings, leasts, script) },
-        generate: |ceilings, leasts, script| unsafe { wide::generate(ceilings, leasts, script) },
+        close: |upper, lower, closed_upper, closed_lower| unsafe { wide::close(upper, lower, closed_upper, closed_lower) },
+        judge: |upper, lower, script| unsafe { wide::judge(upper, lower, script) },
+        generate: |upper, lower, script| unsafe { wide::generate(upper, lower, script) },
         read: |text, upper, lower| unsafe { wide::read(text, upper, lower) },
     })
 }

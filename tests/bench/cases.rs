@@ -11,33 +11,33 @@ pub struct Case {
     /// How many operations one run has.
     pub calls: usize,
     pub run: fn(&Case, &Contender) -> Vec<u32>,
-    ceilings: Vec<u32>,
-    leasts: Vec<u32>,
+    upper: Vec<u32>,
+    lower: Vec<u32>,
     script: Vec<u32>,
     text: Vec<u8>,
 }
 
 fn close(case: &Case, contender: &Contender) -> Vec<u32> {
-    let horizon = case.ceilings.len();
-    let (mut upper, mut lower) = (vec![0; horizon], vec![0; horizon]);
+    let horizon = case.upper.len();
+    let (mut closed_upper, mut closed_lower) = (vec![0; horizon], vec![0; horizon]);
     let mut rounds = 0;
     for _ in 0..case.calls {
-        rounds = (contender.close)(&case.ceilings, &case.leasts, &mut upper, &mut lower);
+        rounds = (contender.close)(&case.upper, &case.lower, &mut closed_upper, &mut closed_lower);
     }
-    upper.extend(lower);
-    upper.push(rounds as u32);
-    upper
+    closed_upper.extend(closed_lower);
+    closed_upper.push(rounds as u32);
+    closed_upper
 }
 
 fn judge(case: &Case, contender: &Contender) -> Vec<u32> {
     let mut script = case.script.clone();
-    (contender.judge)(&case.ceilings, &case.leasts, &mut script);
+    (contender.judge)(&case.upper, &case.lower, &mut script);
     script
 }
 
 fn generate(case: &Case, contender: &Contender) -> Vec<u32> {
     let mut script = case.script.clone();
-    (contender.generate)(&case.ceilings, &case.leasts, &mut script);
+    (contender.generate)(&case.upper, &case.lower, &mut script);
     script
 }
 
@@ -54,15 +54,15 @@ fn read(case: &Case, contender: &Contender) -> Vec<u32> {
 
 /// Two windows with a word each: nine rounds, the most that there are.
 fn closing() -> Case {
-    let (mut ceilings, mut leasts) = (vec![LIMIT; 256], vec![0; 256]);
-    ceilings[4] = 200_000;
-    leasts[252] = 10_120_000;
+    let (mut upper, mut lower) = (vec![LIMIT; 256], vec![0; 256]);
+    upper[4] = 200_000;
+    lower[252] = 10_120_000;
     Case {
         name: "closing, 256, 9 rounds",
         calls: 20,
         run: close,
-        ceilings,
-        leasts,
+        upper,
+        lower,
         script: Vec::new(),
         text: Vec::new(),
     }
@@ -70,11 +70,11 @@ fn closing() -> Case {
 
 /// Closed curves about 5 in 2 ticks, with room for a burst: each tick has several counts to choose from.
 fn curves(horizon: u32) -> (Vec<u32>, Vec<u32>) {
-    let ceilings: Vec<u32> = (1..=horizon).map(|window| 5 * window / 2 + 9).collect();
-    let leasts: Vec<u32> = (1..=horizon).map(|window| (5 * window / 2).saturating_sub(9)).collect();
-    let (mut upper, mut lower) = (ceilings.clone(), leasts.clone());
-    Product.close(&ceilings, &leasts, &mut upper, &mut lower);
-    (upper, lower)
+    let upper: Vec<u32> = (1..=horizon).map(|window| 5 * window / 2 + 9).collect();
+    let lower: Vec<u32> = (1..=horizon).map(|window| (5 * window / 2).saturating_sub(9)).collect();
+    let (mut closed_upper, mut closed_lower) = (upper.clone(), lower.clone());
+    Product.close(&upper, &lower, &mut closed_upper, &mut closed_lower);
+    (closed_upper, closed_lower)
 }
 
 fn choices() -> Vec<u32> {
@@ -82,13 +82,13 @@ fn choices() -> Vec<u32> {
 }
 
 fn generator(name: &'static str, horizon: u32) -> Case {
-    let (ceilings, leasts) = curves(horizon);
+    let (upper, lower) = curves(horizon);
     Case {
         name,
         calls: TICKS,
         run: generate,
-        ceilings,
-        leasts,
+        upper,
+        lower,
         script: choices(),
         text: Vec::new(),
     }
@@ -97,7 +97,7 @@ fn generator(name: &'static str, horizon: u32) -> Case {
 /// The stream that a generator sends on the same curves, so that every tick is passed and every window judged.
 fn monitor(name: &'static str, horizon: u32) -> Case {
     let mut case = generator(name, horizon);
-    Product.generate(&case.ceilings, &case.leasts, &mut case.script);
+    Product.generate(&case.upper, &case.lower, &mut case.script);
     case.run = judge;
     case
 }
@@ -111,8 +111,8 @@ fn reading() -> Case {
         name: "reading, 256 records",
         calls: 400,
         run: read,
-        ceilings: Vec::new(),
-        leasts: Vec::new(),
+        upper: Vec::new(),
+        lower: Vec::new(),
         script: Vec::new(),
         text,
     }

@@ -21,9 +21,9 @@ pub fn all() -> Vec<Contender> {
     let mut list = vec![
         Contender {
             name: "product",
-            close: |ceilings, leasts, upper, lower| Product.close(ceilings, leasts, upper, lower),
-            judge: |ceilings, leasts, script| Product.judge(ceilings, leasts, script),
-            generate: |ceilings, leasts, script| Product.generate(ceilings, leasts, script),
+            close: |upper, lower, closed_upper, closed_lower| Product.close(upper, lower, closed_upper, closed_lower),
+            judge: |upper, lower, script| Product.judge(upper, lower, script),
+            generate: |upper, lower, script| Product.generate(upper, lower, script),
             read: |text, upper, lower| Product.read(text, upper, lower),
         },
         Contender {

@@ -32,25 +32,25 @@ fn block(curve: &Curve, start: usize) -> &[i32; BLOCK] {
 /// The new figures of the windows from `d` on, one block.
 #[inline(always)]
 fn round_block(upper: &Curve, lower: &Curve, d: usize, horizon: usize) -> ([i32; BLOCK], [i32; BLOCK]) {
-    let (mut ceilings, mut leasts) = (*block(upper, FIRST + d), *block(lower, FIRST + d));
+    let (mut new_upper, mut new_lower) = (*block(upper, FIRST + d), *block(lower, FIRST + d));
     // The two parts of a cut can be taken in either order, so the first need not be the longer one.
     for a in 1..=((d + BLOCK - 1) / 2).min(horizon) {
-        let (ceiling, least) = (upper[FIRST + a], lower[FIRST + a]);
-        let (other_ceilings, other_leasts) = (block(upper, FIRST + d - a), block(lower, FIRST + d - a));
+        let (part_upper, part_lower) = (upper[FIRST + a], lower[FIRST + a]);
+        let (other_upper, other_lower) = (block(upper, FIRST + d - a), block(lower, FIRST + d - a));
         for place in 0..BLOCK {
-            ceilings[place] = ceilings[place].min(other_ceilings[place] + ceiling);
-            leasts[place] = leasts[place].max(other_leasts[place] + least);
+            new_upper[place] = new_upper[place].min(other_upper[place] + part_upper);
+            new_lower[place] = new_lower[place].max(other_lower[place] + part_lower);
         }
     }
     for t in 1..=horizon - d {
-        let (ceiling, least) = (upper[FIRST + t], lower[FIRST + t]);
-        let (whole_ceilings, whole_leasts) = (block(upper, FIRST + d + t), block(lower, FIRST + d + t));
+        let (part_upper, part_lower) = (upper[FIRST + t], lower[FIRST + t]);
+        let (whole_upper, whole_lower) = (block(upper, FIRST + d + t), block(lower, FIRST + d + t));
         for place in 0..BLOCK {
-            ceilings[place] = ceilings[place].min(whole_ceilings[place] - least);
-            leasts[place] = leasts[place].max(whole_leasts[place] - ceiling);
+            new_upper[place] = new_upper[place].min(whole_upper[place] - part_lower);
+            new_lower[place] = new_lower[place].max(whole_lower[place] - part_upper);
         }
     }
-    (ceilings, leasts)
+    (new_upper, new_lower)
 }
 
 /// One round; whether it changed a figure. What is beyond the horizon keeps its filler.
@@ -58,66 +58,66 @@ fn round_block(upper: &Curve, lower: &Curve, d: usize, horizon: usize) -> ([i32;
 fn round(upper: &mut Curve, lower: &mut Curve, horizon: usize) -> bool {
     let (old_upper, old_lower) = (*upper, *lower);
     for d in (1..=horizon).step_by(BLOCK) {
-        let (ceilings, leasts) = round_block(&old_upper, &old_lower, d, horizon);
+        let (new_upper, new_lower) = round_block(&old_upper, &old_lower, d, horizon);
         let inside = BLOCK.min(horizon + 1 - d);
-        upper[FIRST + d..FIRST + d + inside].copy_from_slice(&ceilings[..inside]);
-        lower[FIRST + d..FIRST + d + inside].copy_from_slice(&leasts[..inside]);
+        upper[FIRST + d..FIRST + d + inside].copy_from_slice(&new_upper[..inside]);
+        lower[FIRST + d..FIRST + d + inside].copy_from_slice(&new_lower[..inside]);
     }
     *upper != old_upper || *lower != old_lower
 }
 
 #[inline(always)]
-pub fn close_core(ceilings: &[u32], leasts: &[u32], upper: &mut [u32], lower: &mut [u32]) -> u64 {
-    let horizon = ceilings.len();
-    let (mut ceiling, mut least) = (curve(ceilings, FAR), curve(leasts, -FAR));
+pub fn close_core(upper: &[u32], lower: &[u32], closed_upper: &mut [u32], closed_lower: &mut [u32]) -> u64 {
+    let horizon = upper.len();
+    let (mut upper_curve, mut lower_curve) = (curve(upper, FAR), curve(lower, -FAR));
     let inside = FIRST + 1..FIRST + 1 + horizon;
     let mut rounds = 0;
     loop {
-        if ceiling[inside.clone()]
+        if upper_curve[inside.clone()]
             .iter()
-            .zip(&least[inside.clone()])
-            .any(|(ceiling, least)| least > ceiling)
+            .zip(&lower_curve[inside.clone()])
+            .any(|(upper, lower)| lower > upper)
         {
             return refused(5);
         }
-        if !round(&mut ceiling, &mut least, horizon) {
+        if !round(&mut upper_curve, &mut lower_curve, horizon) {
             break;
         }
         rounds += 1;
     }
-    upper
+    closed_upper
         .iter_mut()
-        .zip(&ceiling[inside.clone()])
+        .zip(&upper_curve[inside.clone()])
         .for_each(|(entry, figure)| *entry = *figure as u32);
-    lower
+    closed_lower
         .iter_mut()
-        .zip(&least[inside])
+        .zip(&lower_curve[inside])
         .for_each(|(entry, figure)| *entry = *figure as u32);
     rounds
 }
 
-/// Whether some window is outside. The sums fit: what is held keeps its ceilings, and the count is at most a ceiling.
+/// Whether some window is outside. The sums fit: what is held keeps the upper curve, and the count is at most the limit.
 #[inline(always)]
-fn outside(ring: &Ring, ceilings: &[u32], leasts: &[u32], count: u32) -> bool {
+fn outside(ring: &Ring, upper: &[u32], lower: &[u32], count: u32) -> bool {
     let (before, latest) = ring.before();
     let next = latest.wrapping_add(count as i32);
     let mut found = false;
-    for ((sum, ceiling), least) in before.iter().zip(ceilings).zip(leasts) {
+    for ((sum, upper), lower) in before.iter().zip(upper).zip(lower) {
         let window = next.wrapping_sub(*sum);
-        found |= (window > *ceiling as i32) | (window < *least as i32);
+        found |= (window > *upper as i32) | (window < *lower as i32);
     }
     found
 }
 
 /// Only once in a script: which window it was.
-fn verdict(ring: &Ring, ceilings: &[u32], leasts: &[u32], count: u32) -> u32 {
+fn verdict(ring: &Ring, upper: &[u32], lower: &[u32], count: u32) -> u32 {
     let (before, latest) = ring.before();
     for (place, sum) in before.iter().enumerate() {
         let window = i64::from(latest.wrapping_sub(*sum)) + i64::from(count);
-        if window > i64::from(ceilings[place]) {
+        if window > i64::from(upper[place]) {
             return TOO_MANY + 1 + place as u32;
         }
-        if window < i64::from(leasts[place]) {
+        if window < i64::from(lower[place]) {
             return TOO_FEW + 1 + place as u32;
         }
     }
@@ -125,12 +125,12 @@ fn verdict(ring: &Ring, ceilings: &[u32], leasts: &[u32], count: u32) -> u32 {
 }
 
 #[inline(always)]
-pub fn judge_core(ceilings: &[u32], leasts: &[u32], script: &mut [u32]) -> u32 {
-    let mut ring = Ring::new(ceilings.len());
+pub fn judge_core(upper: &[u32], lower: &[u32], script: &mut [u32]) -> u32 {
+    let mut ring = Ring::new(upper.len());
     for tick in 0..script.len() {
         let count = script[tick];
-        if count > LIMIT || outside(&ring, ceilings, leasts, count) {
-            script[tick] = verdict(&ring, ceilings, leasts, count);
+        if count > LIMIT || outside(&ring, upper, lower, count) {
+            script[tick] = verdict(&ring, upper, lower, count);
             script[tick + 1..].fill(ALREADY_FAILED);
             break;
         }
@@ -141,22 +141,22 @@ pub fn judge_core(ceilings: &[u32], leasts: &[u32], script: &mut [u32]) -> u32 {
 }
 
 #[inline(always)]
-fn bounds(ring: &Ring, ceilings: &[u32], leasts: &[u32]) -> (i32, i32) {
+fn bounds(ring: &Ring, upper: &[u32], lower: &[u32]) -> (i32, i32) {
     let (before, latest) = ring.before();
     let (mut lo, mut hi) = (0, i32::MAX);
-    for ((sum, ceiling), least) in before.iter().zip(ceilings).zip(leasts) {
+    for ((sum, upper), lower) in before.iter().zip(upper).zip(lower) {
         let earlier = latest.wrapping_sub(*sum);
-        hi = hi.min(*ceiling as i32 - earlier);
-        lo = lo.max(*least as i32 - earlier);
+        hi = hi.min(*upper as i32 - earlier);
+        lo = lo.max(*lower as i32 - earlier);
     }
     (lo, hi)
 }
 
 #[inline(always)]
-pub fn generate_core(ceilings: &[u32], leasts: &[u32], script: &mut [u32]) -> u32 {
-    let mut ring = Ring::new(ceilings.len());
+pub fn generate_core(upper: &[u32], lower: &[u32], script: &mut [u32]) -> u32 {
+    let mut ring = Ring::new(upper.len());
     for tick in 0..script.len() {
-        let (lo, hi) = bounds(&ring, ceilings, leasts);
+        let (lo, hi) = bounds(&ring, upper, lower);
         if lo > hi {
             script[tick..].fill(NO_COUNT);
             break;
@@ -190,8 +190,8 @@ fn number(text: &[u8], place: usize) -> Option<(u32, usize)> {
 /// Reads a text without faults whose records all end with CR LF; nothing where it is another.
 #[inline(always)]
 fn read_good(text: &[u8], upper: &mut [u32], lower: &mut [u32]) -> Option<u64> {
-    let mut ceilings = [u32::MAX; LONGEST_HORIZON + 1];
-    let mut leasts = [0; LONGEST_HORIZON + 1];
+    let mut named_upper = [u32::MAX; LONGEST_HORIZON + 1];
+    let mut named_lower = [0; LONGEST_HORIZON + 1];
     let (mut place, mut horizon, mut smallest) = (HEADER.len() + 2, 0, u32::MAX);
     if text.get(..place)? != b"window,least,most\r\n" || text.len() > 16_384 {
         return None;
@@ -202,18 +202,18 @@ fn read_good(text: &[u8], upper: &mut [u32], lower: &mut [u32]) -> Option<u64> {
         let (most, last) = number(text, next + 1)?;
         let separated = text[end] == b',' && text[next] == b',' && text.get(last..last + 2)? == b"\r\n";
         let in_range = window.wrapping_sub(1) < 256 && least < 65_536 && most < 65_536;
-        if !separated || !in_range || ceilings[window as usize] != u32::MAX {
+        if !separated || !in_range || named_upper[window as usize] != u32::MAX {
             return None;
         }
-        (ceilings[window as usize], leasts[window as usize]) = (most, least);
+        (named_upper[window as usize], named_lower[window as usize]) = (most, least);
         horizon = horizon.max(window as usize);
         smallest = smallest.min(most);
         place = last + 2;
     }
     let (upper, lower) = (upper.get_mut(..horizon)?, lower.get_mut(..horizon)?);
-    lower.copy_from_slice(&leasts[1..=horizon]);
-    for (window, (entry, ceiling)) in (1..).zip(upper.iter_mut().zip(&ceilings[1..])) {
-        *entry = if *ceiling == u32::MAX { window * smallest } else { *ceiling };
+    lower.copy_from_slice(&named_lower[1..=horizon]);
+    for (window, (entry, figure)) in (1..).zip(upper.iter_mut().zip(&named_upper[1..])) {
+        *entry = if *figure == u32::MAX { window * smallest } else { *figure };
     }
     if horizon > 0 {
         Some(horizon as u64)

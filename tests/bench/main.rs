@@ -2,6 +2,9 @@
 //! forms that were found. Times differ from run to run; the ratios of one run are what counts, so the contenders take turns.
 //!
 //!     bench [REPETITIONS]
+//!
+//! The contenders' results are compared before their times. With 0 repetitions nothing is timed: the program only compares the results on
+//! every case, prints one line and ends with 0, or with another number where some differ. Without an argument there are 9 repetitions.
 
 mod builds;
 mod cases;
@@ -66,9 +69,18 @@ fn run(repetitions: u32) -> Result<(), String> {
     Ok(())
 }
 
+/// The results alone, of all contenders on all cases.
+fn compare() -> Result<(), String> {
+    let (cases, contenders) = (cases::all(), contender::all());
+    cases.iter().try_for_each(|case| check(case, &contenders))?;
+    println!("bench: {} cases, all contenders agree", cases.len());
+    Ok(())
+}
+
 fn main() {
     let repetitions = std::env::args().nth(1).and_then(|text| text.parse().ok()).unwrap_or(9);
-    if let Err(message) = run(repetitions) {
+    let outcome = if repetitions == 0 { compare() } else { run(repetitions) };
+    if let Err(message) = outcome {
         println!("bench: FAILED, {message}");
         std::process::exit(1);
     }

@@ -5,10 +5,10 @@ use crate::subject::{
     refused, ALREADY_FAILED, HEADER, LIMIT, LONGEST_HORIZON, LONGEST_TEXT, NO_COUNT, PASSED, TEXT_LIMIT, TOO_FEW, TOO_MANY,
 };
 
-pub fn opening(ceilings: &[u32], leasts: &[u32]) -> u32 {
-    match ceilings.len() {
-        1..=LONGEST_HORIZON if leasts.len() != ceilings.len() => 2,
-        1..=LONGEST_HORIZON if ceilings.iter().chain(leasts).any(|&figure| figure > LIMIT) => 4,
+pub fn opening(upper: &[u32], lower: &[u32]) -> u32 {
+    match upper.len() {
+        1..=LONGEST_HORIZON if lower.len() != upper.len() => 2,
+        1..=LONGEST_HORIZON if upper.iter().chain(lower).any(|&figure| figure > LIMIT) => 4,
         1..=LONGEST_HORIZON => 0,
         _ => 1,
     }
@@ -17,7 +17,7 @@ pub fn opening(ceilings: &[u32], leasts: &[u32]) -> u32 {
 /// The new figures of one window: over the places to cut it, then over the ways to make it longer. A difference below 0 is cut off
 /// there: the figures cross in another window of the same round then.
 fn figures(upper: &[u32], lower: &[u32], d: usize) -> (u32, u32) {
-    let (mut ceiling, mut least) = (upper[d - 1], lower[d - 1]);
+    let (mut new_upper, mut new_lower) = (upper[d - 1], lower[d - 1]);
     for a in 1..d {
         // SAFETY: both parts of a cut are windows shorter than d.
         let (upper_sum, lower_sum) = unsafe {
@@ -27,30 +27,30 @@ fn figures(upper: &[u32], lower: &[u32], d: usize) -> (u32, u32) {
                 lower.get_unchecked(one) + lower.get_unchecked(other),
             )
         };
-        ceiling = ceiling.min(upper_sum);
-        least = least.max(lower_sum);
+        new_upper = new_upper.min(upper_sum);
+        new_lower = new_lower.max(lower_sum);
     }
     let longer = upper[d..].iter().zip(&lower[d..]).zip(upper.iter().zip(lower));
     for ((upper_whole, lower_whole), (upper_rest, lower_rest)) in longer {
-        ceiling = ceiling.min(upper_whole.saturating_sub(*lower_rest));
-        least = least.max(lower_whole.saturating_sub(*upper_rest));
+        new_upper = new_upper.min(upper_whole.saturating_sub(*lower_rest));
+        new_lower = new_lower.max(lower_whole.saturating_sub(*upper_rest));
     }
-    (ceiling, least)
+    (new_upper, new_lower)
 }
 
-pub fn close(ceilings: &[u32], leasts: &[u32], upper: &mut [u32], lower: &mut [u32]) -> u64 {
-    let horizon = ceilings.len();
-    match opening(ceilings, leasts) {
-        0 | 4 if upper.len() < horizon || lower.len() < horizon => return refused(3),
+pub fn close(upper: &[u32], lower: &[u32], closed_upper: &mut [u32], closed_lower: &mut [u32]) -> u64 {
+    let horizon = upper.len();
+    match opening(upper, lower) {
+        0 | 4 if closed_upper.len() < horizon || closed_lower.len() < horizon => return refused(3),
         0 => {}
         number => return refused(number),
     }
     let (mut old_upper, mut old_lower) = ([0; LONGEST_HORIZON], [0; LONGEST_HORIZON]);
-    old_upper[..horizon].copy_from_slice(ceilings);
-    old_lower[..horizon].copy_from_slice(leasts);
+    old_upper[..horizon].copy_from_slice(upper);
+    old_lower[..horizon].copy_from_slice(lower);
     let mut rounds = 0;
     loop {
-        if old_upper[..horizon].iter().zip(&old_lower).any(|(ceiling, least)| least > ceiling) {
+        if old_upper[..horizon].iter().zip(&old_lower).any(|(upper, lower)| lower > upper) {
             return refused(5);
         }
         let (mut new_upper, mut new_lower) = ([0; LONGEST_HORIZON], [0; LONGEST_HORIZON]);
@@ -63,15 +63,15 @@ pub fn close(ceilings: &[u32], leasts: &[u32], upper: &mut [u32], lower: &mut [u
         (old_upper, old_lower) = (new_upper, new_lower);
         rounds += 1;
     }
-    upper[..horizon].copy_from_slice(&old_upper[..horizon]);
-    lower[..horizon].copy_from_slice(&old_lower[..horizon]);
+    closed_upper[..horizon].copy_from_slice(&old_upper[..horizon]);
+    closed_lower[..horizon].copy_from_slice(&old_lower[..horizon]);
     rounds
 }
 
 /// A state as it goes in and comes out. The last tick is held first.
 struct State {
-    ceilings: [u32; LONGEST_HORIZON],
-    leasts: [u32; LONGEST_HORIZON],
+    upper: [u32; LONGEST_HORIZON],
+    lower: [u32; LONGEST_HORIZON],
     held: [u32; LONGEST_HORIZON],
     horizon: usize,
     held_ticks: usize,
@@ -79,18 +79,18 @@ struct State {
 }
 
 impl State {
-    fn open(ceilings: &[u32], leasts: &[u32]) -> State {
+    fn open(upper: &[u32], lower: &[u32]) -> State {
         let nothing = [0; LONGEST_HORIZON];
         let mut state = State {
-            ceilings: nothing,
-            leasts: nothing,
+            upper: nothing,
+            lower: nothing,
             held: nothing,
-            horizon: ceilings.len(),
+            horizon: upper.len(),
             held_ticks: 0,
             failed: false,
         };
-        state.ceilings[..ceilings.len()].copy_from_slice(ceilings);
-        state.leasts[..leasts.len()].copy_from_slice(leasts);
+        state.upper[..upper.len()].copy_from_slice(upper);
+        state.lower[..lower.len()].copy_from_slice(lower);
         state
     }
 
@@ -99,8 +99,8 @@ impl State {
         let within = |list: &[u32]| !list.iter().fold(false, |over, &figure| over | (figure > LIMIT));
         (1..=LONGEST_HORIZON).contains(&self.horizon)
             && self.held_ticks < self.horizon
-            && within(&self.ceilings[..self.horizon])
-            && within(&self.leasts[..self.horizon])
+            && within(&self.upper[..self.horizon])
+            && within(&self.lower[..self.horizon])
     }
 
     fn hold(mut self, count: u32) -> State {
@@ -117,17 +117,17 @@ impl State {
         let windows = self.held_ticks + 1;
         for place in 0..windows {
             // SAFETY: there are fewer held ticks than the horizon, which is at most 256.
-            let (ceiling, least, held) = unsafe {
+            let (upper, lower, held) = unsafe {
                 (
-                    *self.ceilings.get_unchecked(place),
-                    *self.leasts.get_unchecked(place),
+                    *self.upper.get_unchecked(place),
+                    *self.lower.get_unchecked(place),
                     *self.held.get_unchecked(place),
                 )
             };
-            if sum > u64::from(ceiling) {
+            if sum > u64::from(upper) {
                 return TOO_MANY + 1 + place as u32;
             }
-            if sum < u64::from(least) {
+            if sum < u64::from(lower) {
                 return TOO_FEW + 1 + place as u32;
             }
             // After the last window this adds a tick that is not held, and nobody looks at the sum any more.
@@ -140,15 +140,15 @@ impl State {
         let (mut before, mut lo, mut hi) = (0, 0, i64::from(u32::MAX));
         for place in 0..self.held_ticks + 1 {
             // SAFETY: as for a verdict.
-            let (ceiling, least, held) = unsafe {
+            let (upper, lower, held) = unsafe {
                 (
-                    *self.ceilings.get_unchecked(place),
-                    *self.leasts.get_unchecked(place),
+                    *self.upper.get_unchecked(place),
+                    *self.lower.get_unchecked(place),
                     *self.held.get_unchecked(place),
                 )
             };
-            hi = hi.min(i64::from(ceiling) - before);
-            lo = lo.max(i64::from(least) - before);
+            hi = hi.min(i64::from(upper) - before);
+            lo = lo.max(i64::from(lower) - before);
             before += i64::from(held);
         }
         (lo, hi)
@@ -182,24 +182,24 @@ impl State {
     }
 }
 
-fn run_script(ceilings: &[u32], leasts: &[u32], script: &mut [u32], tick: impl Fn(State, u32) -> (State, u32)) -> u32 {
-    let number = opening(ceilings, leasts);
+fn run_script(upper: &[u32], lower: &[u32], script: &mut [u32], tick: impl Fn(State, u32) -> (State, u32)) -> u32 {
+    let number = opening(upper, lower);
     if number != 0 {
         return number;
     }
-    let mut state = State::open(ceilings, leasts);
+    let mut state = State::open(upper, lower);
     for entry in script {
         (state, *entry) = tick(state, *entry);
     }
     0
 }
 
-pub fn judge(ceilings: &[u32], leasts: &[u32], script: &mut [u32]) -> u32 {
-    run_script(ceilings, leasts, script, State::monitor_tick)
+pub fn judge(upper: &[u32], lower: &[u32], script: &mut [u32]) -> u32 {
+    run_script(upper, lower, script, State::monitor_tick)
 }
 
-pub fn generate(ceilings: &[u32], leasts: &[u32], script: &mut [u32]) -> u32 {
-    run_script(ceilings, leasts, script, State::generator_tick)
+pub fn generate(upper: &[u32], lower: &[u32], script: &mut [u32]) -> u32 {
+    run_script(upper, lower, script, State::generator_tick)
 }
 
 /// The number that stands before `end`, and what follows it.

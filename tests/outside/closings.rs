@@ -12,70 +12,75 @@ use crate::tally::{Tally, CLOSING, ROUNDS, TWO_FAULTS};
 const MARGIN: usize = 4;
 
 pub struct Case {
-    pub ceilings: Vec<u32>,
-    pub leasts: Vec<u32>,
-    /// Each with a margin before and after the list itself.
     pub upper: Vec<u32>,
     pub lower: Vec<u32>,
+    /// Each with a margin before and after the list itself.
+    pub closed_upper: Vec<u32>,
+    pub closed_lower: Vec<u32>,
 }
 
 #[derive(PartialEq)]
 struct Outcome {
     answer: u64,
-    upper: Vec<u32>,
-    lower: Vec<u32>,
+    closed_upper: Vec<u32>,
+    closed_lower: Vec<u32>,
 }
 
 impl Outcome {
     fn shown(&self) -> String {
-        format!("{}\n  upper {:?}\n  lower {:?}", shown(self.answer), self.upper, self.lower)
+        format!("{}\n  closed upper {:?}\n  closed lower {:?}", shown(self.answer), self.closed_upper, self.closed_lower)
     }
 }
 
 impl Case {
-    pub fn new(rng: &mut Rng, pair: Pair, upper: usize, lower: usize) -> Case {
-        let (upper, lower) = (rng.rubbish(upper + 2 * MARGIN), rng.rubbish(lower + 2 * MARGIN));
+    /// The result lists have the lengths given.
+    pub fn new(rng: &mut Rng, pair: Pair, upper_length: usize, lower_length: usize) -> Case {
         Case {
-            ceilings: pair.ceilings,
-            leasts: pair.leasts,
-            upper,
-            lower,
+            upper: pair.upper,
+            lower: pair.lower,
+            closed_upper: rng.arbitrary(upper_length + 2 * MARGIN),
+            closed_lower: rng.arbitrary(lower_length + 2 * MARGIN),
         }
     }
 
+    /// The lengths of the result lists.
     fn lengths(&self) -> (usize, usize) {
-        (self.upper.len() - 2 * MARGIN, self.lower.len() - 2 * MARGIN)
+        (self.closed_upper.len() - 2 * MARGIN, self.closed_lower.len() - 2 * MARGIN)
     }
 
     fn put_to(&self, subject: &dyn Subject) -> Outcome {
-        let (mut upper, mut lower) = (self.upper.clone(), self.lower.clone());
+        let (mut closed_upper, mut closed_lower) = (self.closed_upper.clone(), self.closed_lower.clone());
         let (upper_length, lower_length) = self.lengths();
-        let lists = (&mut upper[MARGIN..MARGIN + upper_length], &mut lower[MARGIN..MARGIN + lower_length]);
-        let answer = subject.close(&self.ceilings, &self.leasts, lists.0, lists.1);
-        Outcome { answer, upper, lower }
+        let answer = subject.close(
+            &self.upper,
+            &self.lower,
+            &mut closed_upper[MARGIN..MARGIN + upper_length],
+            &mut closed_lower[MARGIN..MARGIN + lower_length],
+        );
+        Outcome { answer, closed_upper, closed_lower }
     }
 
     fn input(&self) -> String {
         let (upper_length, lower_length) = self.lengths();
         format!(
-            "close\n  ceilings {:?}\n  leasts {:?}\n  upper before {:?}\n  lower before {:?}\n",
-            self.ceilings,
-            self.leasts,
-            &self.upper[MARGIN..MARGIN + upper_length],
-            &self.lower[MARGIN..MARGIN + lower_length]
+            "close\n  upper {:?}\n  lower {:?}\n  closed upper before {:?}\n  closed lower before {:?}\n",
+            self.upper,
+            self.lower,
+            &self.closed_upper[MARGIN..MARGIN + upper_length],
+            &self.closed_lower[MARGIN..MARGIN + lower_length]
         )
     }
 
     /// Which of the questions 1 to 5 has the answer no, each asked by itself; of 5 only whether the given figures cross.
     fn faults(&self) -> Vec<u32> {
-        let horizon = self.ceilings.len();
-        let (upper, lower) = self.lengths();
-        let crosses = self.ceilings.iter().zip(&self.leasts).any(|(ceiling, least)| least > ceiling);
+        let horizon = self.upper.len();
+        let (upper_length, lower_length) = self.lengths();
+        let crosses = self.upper.iter().zip(&self.lower).any(|(upper, lower)| lower > upper);
         let asked = [
             (1, horizon < 1 || horizon > LONGEST_HORIZON),
-            (2, self.leasts.len() != horizon),
-            (3, upper < horizon || lower < horizon),
-            (4, self.ceilings.iter().chain(&self.leasts).any(|&figure| figure > LIMIT)),
+            (2, self.lower.len() != horizon),
+            (3, upper_length < horizon || lower_length < horizon),
+            (4, self.upper.iter().chain(&self.lower).any(|&figure| figure > LIMIT)),
             (5, crosses),
         ];
         asked.iter().filter(|question| question.1).map(|question| question.0).collect()
@@ -92,25 +97,25 @@ fn result_length(rng: &mut Rng, horizon: usize) -> usize {
 }
 
 /// One fault that a question 1 to 4 is about.
-fn spoil(rng: &mut Rng, pair: &mut Pair, upper: &mut usize, lower: &mut usize) {
+fn spoil(rng: &mut Rng, pair: &mut Pair, upper_length: &mut usize, lower_length: &mut usize) {
     match rng.below(5) {
         0 => {
             let length = rng.pick(&[0, 257, 258, 300, 512]);
-            pair.ceilings.resize(length, LIMIT);
+            pair.upper.resize(length, LIMIT);
             if rng.one_in(2) {
-                pair.leasts.resize(length, 0);
+                pair.lower.resize(length, 0);
             }
         }
         1 => {
-            let horizon = pair.ceilings.len();
+            let horizon = pair.upper.len();
             let length = rng.pick(&[0, horizon.saturating_sub(1), horizon + 1, 1, 256, 257]);
-            pair.leasts.resize(length, 0);
+            pair.lower.resize(length, 0);
         }
-        2 => *upper = rng.length(0, pair.ceilings.len()),
-        3 => *lower = rng.length(0, pair.ceilings.len()),
+        2 => *upper_length = rng.length(0, pair.upper.len()),
+        3 => *lower_length = rng.length(0, pair.upper.len()),
         _ => {
             let over = rng.pick(&[LIMIT + 1, LIMIT + 1, LIMIT + 2, 1 << 31, u32::MAX]);
-            let list = if rng.one_in(2) { &mut pair.ceilings } else { &mut pair.leasts };
+            let list = if rng.one_in(2) { &mut pair.upper } else { &mut pair.lower };
             if !list.is_empty() {
                 let place = rng.length(0, list.len() - 1);
                 list[place] = over;
@@ -120,47 +125,47 @@ fn spoil(rng: &mut Rng, pair: &mut Pair, upper: &mut usize, lower: &mut usize) {
 }
 
 fn make(rng: &mut Rng, mut pair: Pair) -> Case {
-    let (mut upper, mut lower) = (result_length(rng, pair.horizon()), result_length(rng, pair.horizon()));
+    let (mut upper_length, mut lower_length) = (result_length(rng, pair.horizon()), result_length(rng, pair.horizon()));
     if rng.one_in(8) {
         for _ in 0..rng.between(1, 2) {
-            spoil(rng, &mut pair, &mut upper, &mut lower);
+            spoil(rng, &mut pair, &mut upper_length, &mut lower_length);
         }
     }
-    Case::new(rng, pair, upper, lower)
+    Case::new(rng, pair, upper_length, lower_length)
 }
 
 /// No pair takes more rounds: twice as many steps of a walk are made one in each; and where they arrive, each of them changes a figure by
 /// one at least.
 fn rounds_bound(case: &Case, arrives: bool) -> u64 {
-    let doublings = 1 + u64::from(case.ceilings.len().next_power_of_two().trailing_zeros());
+    let doublings = 1 + u64::from(case.upper.len().next_power_of_two().trailing_zeros());
     if !arrives {
         return doublings;
     }
     let widths = case
-        .ceilings
+        .upper
         .iter()
-        .zip(&case.leasts)
-        .map(|(ceiling, least)| u64::from(ceiling.saturating_sub(*least)));
+        .zip(&case.lower)
+        .map(|(upper, lower)| u64::from(upper.saturating_sub(*lower)));
     widths.sum::<u64>().min(doublings)
 }
 
 /// The rounds against the two ways that know no rounds. A difference here is one inside the reference.
 fn check_reference(case: &Case, expected: &Outcome, paths_too: bool) -> Result<(), String> {
     let none = refusal_of(expected.answer) == 5;
-    if none != paths::rates_conflict(&case.ceilings, &case.leasts) {
+    if none != paths::rates_conflict(&case.upper, &case.lower) {
         return Err(format!("the rounds and the rates disagree on\n{}", case.input()));
     }
-    let rounds = rounds::run(&case.ceilings, &case.leasts).rounds;
+    let rounds = rounds::run(&case.upper, &case.lower).rounds;
     if u64::from(rounds) > rounds_bound(case, !none) {
         return Err(format!("{rounds} rounds are more than there can be on\n{}", case.input()));
     }
     if !paths_too {
         return Ok(());
     }
-    let found = MARGIN..MARGIN + case.ceilings.len();
-    let agrees = match paths::close(&case.ceilings, &case.leasts) {
+    let found = MARGIN..MARGIN + case.upper.len();
+    let agrees = match paths::close(&case.upper, &case.lower) {
         None => none,
-        Some((upper, lower)) => !none && upper == expected.upper[found.clone()] && lower == expected.lower[found],
+        Some((upper, lower)) => !none && upper == expected.closed_upper[found.clone()] && lower == expected.closed_lower[found],
     };
     if agrees {
         Ok(())

@@ -23,26 +23,32 @@ impl Faulty {
         horizon < 1 || horizon > longest
     }
 
-    fn over_limit(&self, ceilings: &[u32], leasts: &[u32]) -> bool {
+    fn over_limit(&self, upper: &[u32], lower: &[u32]) -> bool {
         let limit = LIMIT + u32::from(self.has(LimitOneMore)) - u32::from(self.has(LimitOneLess));
-        let leasts = if self.has(LeastsNotLimited) { &[] } else { leasts };
-        ceilings.iter().chain(leasts).any(|&figure| figure > limit)
+        let lower = if self.has(LowerNotLimited) { &[] } else { lower };
+        upper.iter().chain(lower).any(|&figure| figure > limit)
     }
 
-    fn given_crosses(&self, ceilings: &[u32], leasts: &[u32]) -> bool {
-        ceilings.iter().zip(leasts).any(|(ceiling, least)| least > ceiling)
+    /// How many windows are looked at for a crossing, the shortest first.
+    fn compared_windows(&self, horizon: usize) -> usize {
+        horizon.saturating_sub(usize::from(self.has(HorizonNotCrossed)))
+    }
+
+    fn given_crosses(&self, upper: &[u32], lower: &[u32]) -> bool {
+        let windows = self.compared_windows(upper.len());
+        upper[..windows].iter().zip(lower).any(|(upper, lower)| lower > upper)
     }
 
     /// The questions of closing in their order, or in another one.
-    fn asked(&self, ceilings: &[u32], leasts: &[u32], upper: usize, lower: usize) -> u32 {
-        let horizon = ceilings.len();
-        let short = upper < horizon || (lower < horizon && !self.has(UpperOnlyAsked));
+    fn asked(&self, upper: &[u32], lower: &[u32], closed_upper: usize, closed_lower: usize) -> u32 {
+        let horizon = upper.len();
+        let short = closed_upper < horizon || (closed_lower < horizon && !self.has(ClosedUpperOnlyAsked));
         let mut questions = [
             (1, self.too_long(horizon)),
-            (2, leasts.len() != horizon),
+            (2, lower.len() != horizon),
             (3, short),
-            (4, self.over_limit(ceilings, leasts)),
-            (5, self.given_crosses(ceilings, leasts)),
+            (4, self.over_limit(upper, lower)),
+            (5, self.given_crosses(upper, lower)),
         ];
         match self.fault {
             TwoBeforeOne => questions.swap(0, 1),
@@ -54,21 +60,21 @@ impl Faulty {
         questions.iter().find(|question| question.1).map_or(0, |question| question.0)
     }
 
-    pub fn opening(&self, ceilings: &[u32], leasts: &[u32]) -> u32 {
-        let over = !self.has(OpeningAsksNoLimit) && self.over_limit(ceilings, leasts);
-        if self.too_long(ceilings.len()) {
+    pub fn opening(&self, upper: &[u32], lower: &[u32]) -> u32 {
+        let over = !self.has(OpeningAsksNoLimit) && self.over_limit(upper, lower);
+        if self.too_long(upper.len()) {
             return 1;
         }
         if over && self.has(OpeningAsksFourFirst) {
             return 4;
         }
-        if leasts.len() != ceilings.len() {
+        if lower.len() != upper.len() {
             return 2;
         }
         if over {
             return 4;
         }
-        if self.has(OpeningAsksFive) && self.given_crosses(ceilings, leasts) {
+        if self.has(OpeningAsksFive) && self.given_crosses(upper, lower) {
             return 5;
         }
         0
@@ -77,7 +83,7 @@ impl Faulty {
     fn sums(&self, old: &Figures, new: &mut Figures, d: usize) {
         let end = if self.has(ShortSums) { d.saturating_sub(1) } else { d };
         for a in 1..end {
-            if !self.has(NoSums) && !self.has(NoCeilingSums) {
+            if !self.has(NoSums) && !self.has(NoUpperSums) {
                 new.upper[d] = new.upper[d].min(old.upper[a] + old.upper[d - a]);
             }
             if !self.has(NoSums) {
@@ -95,9 +101,9 @@ impl Faulty {
             _ => {}
         }
         for t in 1..=last {
-            let ceiling = old.upper[d + t] - old.lower[t];
-            new.upper[d] = new.upper[d].min(if self.has(CutOffAtOne) { ceiling.max(1) } else { ceiling });
-            if !self.has(NoLeastDifferences) {
+            let difference = old.upper[d + t] - old.lower[t];
+            new.upper[d] = new.upper[d].min(if self.has(CutOffAtOne) { difference.max(1) } else { difference });
+            if !self.has(NoLowerDifferences) {
                 new.lower[d] = new.lower[d].max(old.lower[d + t] - old.upper[t]);
             }
         }
@@ -118,20 +124,29 @@ impl Faulty {
             return false;
         }
         let equal = i64::from(self.has(CrossingAtEqual));
-        (1..figures.upper.len()).any(|d| figures.lower[d] + equal > figures.upper[d])
+        let windows = self.compared_windows(figures.upper.len() - 1);
+        (1..=windows).any(|d| figures.lower[d] + equal > figures.upper[d])
     }
 
-    /// The figures at which the rounds stop, their count, and whether they cross there. Faults that never stop are stopped.
-    fn rounds(&self, ceilings: &[u32], leasts: &[u32]) -> (Figures, u32, bool) {
+    /// After how many rounds a fault is stopped that would not stop by itself, or not soon.
+    fn most_rounds(&self) -> u32 {
+        match self.fault {
+            OnePassOnly => 1,
+            EightRoundsOnly | GivenCrossingOnly => 8,
+            HorizonNotCrossed => 40,
+            _ => u32::MAX,
+        }
+    }
+
+    /// The figures at which the rounds stop, their count, and whether they cross there.
+    fn rounds(&self, upper: &[u32], lower: &[u32]) -> (Figures, u32, bool) {
         let widened = |list: &[u32]| [0].into_iter().chain(list.iter().map(|&figure| i64::from(figure))).collect();
         let mut figures = Figures {
-            upper: widened(ceilings),
-            lower: widened(leasts),
+            upper: widened(upper),
+            lower: widened(lower),
         };
-        let most = if self.has(OnePassOnly) { 1 } else { 8 };
-        let stopped = self.has(OnePassOnly) || self.has(EightRoundsOnly) || self.has(GivenCrossingOnly);
         let mut rounds = 0;
-        while !self.crosses(&figures, rounds) && !(stopped && rounds == most) {
+        while !self.crosses(&figures, rounds) && rounds < self.most_rounds() {
             let next = self.round(&figures);
             if next == figures {
                 return (figures, rounds + u32::from(self.has(LastRoundCounted)), false);
@@ -139,32 +154,34 @@ impl Faulty {
             figures = next;
             rounds += 1;
         }
-        let crosses = self.crosses(&figures, rounds);
+        // Nine rounds are the most that lead to a closure. Where the horizon's window alone crosses and is not seen, some shorter one
+        // crosses after more of them than are run here, so the answer is that of a crossing.
+        let crosses = self.crosses(&figures, rounds) || self.has(HorizonNotCrossed);
         (figures, rounds, crosses)
     }
 
-    fn write(&self, figures: &Figures, upper: &mut [u32], lower: &mut [u32]) {
-        for (entry, figure) in upper.iter_mut().zip(&figures.upper[1..]) {
+    fn write(&self, figures: &Figures, closed_upper: &mut [u32], closed_lower: &mut [u32]) {
+        for (entry, figure) in closed_upper.iter_mut().zip(&figures.upper[1..]) {
             *entry = if self.has(ZerosAlways) { 0 } else { *figure as u32 };
         }
-        for (entry, figure) in lower.iter_mut().zip(&figures.lower[1..]) {
+        for (entry, figure) in closed_lower.iter_mut().zip(&figures.lower[1..]) {
             *entry = if self.has(ZerosAlways) { 0 } else { *figure as u32 };
         }
         if self.has(TailsCleared) {
             let horizon = figures.upper.len() - 1;
-            upper[horizon..].fill(0);
-            lower[horizon..].fill(0);
+            closed_upper[horizon..].fill(0);
+            closed_lower[horizon..].fill(0);
         }
     }
 
-    pub fn close_into(&self, ceilings: &[u32], leasts: &[u32], upper: &mut [u32], lower: &mut [u32]) -> u64 {
-        let number = self.asked(ceilings, leasts, upper.len(), lower.len());
+    pub fn close_into(&self, upper: &[u32], lower: &[u32], closed_upper: &mut [u32], closed_lower: &mut [u32]) -> u64 {
+        let number = self.asked(upper, lower, closed_upper.len(), closed_lower.len());
         if number != 0 || self.has(RefusesAll) {
             return refused(if number == 0 { 5 } else { number });
         }
-        let (figures, rounds, crosses) = self.rounds(ceilings, leasts);
+        let (figures, rounds, crosses) = self.rounds(upper, lower);
         if !crosses || self.has(ResultsOnRefusal) {
-            self.write(&figures, upper, lower);
+            self.write(&figures, closed_upper, closed_lower);
         }
         match (crosses, self.fault) {
             (true, RoundsOnRefusal) => refused(5) | u64::from(rounds),

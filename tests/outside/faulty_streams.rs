@@ -6,15 +6,15 @@ use crate::subject::{ALREADY_FAILED, NO_COUNT, PASSED, TOO_FEW, TOO_MANY};
 
 /// A pair, the ticks held, and what a failed monitor failed with.
 struct State<'a> {
-    ceilings: &'a [u32],
-    leasts: &'a [u32],
+    upper: &'a [u32],
+    lower: &'a [u32],
     held: Vec<u32>,
     failed: u32,
 }
 
 impl State<'_> {
     fn horizon(&self) -> usize {
-        self.ceilings.len()
+        self.upper.len()
     }
 
     /// The sum of the last held ticks, as many as there are up to `ticks`.
@@ -23,12 +23,12 @@ impl State<'_> {
         self.held[start..].iter().map(|&count| i64::from(count)).sum()
     }
 
-    fn ceiling(&self, window: usize) -> i64 {
-        i64::from(self.ceilings[window - 1])
+    fn upper_of(&self, window: usize) -> i64 {
+        i64::from(self.upper[window - 1])
     }
 
-    fn least(&self, window: usize) -> i64 {
-        i64::from(self.leasts[window - 1])
+    fn lower_of(&self, window: usize) -> i64 {
+        i64::from(self.lower[window - 1])
     }
 }
 
@@ -61,8 +61,8 @@ impl Faulty {
     /// The verdict of one window by itself.
     fn window_verdict(&self, state: &State, count: u32, window: usize) -> u32 {
         let sum = self.window_sum(state, count, window);
-        let many = sum + i64::from(self.has(CeilingItselfTooMany)) > state.ceiling(window);
-        let few = sum - i64::from(self.has(LeastItselfTooFew)) < state.least(window);
+        let many = sum + i64::from(self.has(UpperItselfTooMany)) > state.upper_of(window);
+        let few = sum - i64::from(self.has(LowerItselfTooFew)) < state.lower_of(window);
         let named = window as u32 - u32::from(self.has(WindowFromZero));
         match (many, few) {
             (true, true) if self.has(TooFewFirst) => TOO_FEW + named,
@@ -112,9 +112,9 @@ impl Faulty {
         let windows = state.horizon().min(all);
         for window in 1..=windows {
             let before = state.before(window - 1);
-            hi = hi.min(state.ceiling(window) - before);
-            if !self.has(LoIgnored) && (window == windows || !self.has(LeastOfOneWindowOnly)) {
-                lo = lo.max(state.least(window) - before);
+            hi = hi.min(state.upper_of(window) - before);
+            if !self.has(LoIgnored) && (window == windows || !self.has(LowerOfOneWindowOnly)) {
+                lo = lo.max(state.lower_of(window) - before);
             }
         }
         (lo, hi)
@@ -122,11 +122,11 @@ impl Faulty {
 
     fn generator_tick(&self, state: &mut State, choice: u32) -> u32 {
         let (lo, hi) = self.bounds(state);
-        if lo > hi || self.has(AlwaysDeadEnd) {
-            if self.has(HoldsAtDeadEnd) {
+        if lo > hi || self.has(AlwaysNoCount) {
+            if self.has(HoldsForNoCount) {
                 self.hold(state, 0);
             }
-            return if self.has(SendsZeroAtDeadEnd) { 0 } else { NO_COUNT };
+            return if self.has(SendsZeroForNoCount) { 0 } else { NO_COUNT };
         }
         let more = match self.fault {
             RemainderWithoutOne => i64::from(choice) % (hi - lo).max(1),
@@ -138,12 +138,12 @@ impl Faulty {
         count
     }
 
-    fn opened<'a>(&self, ceilings: &'a [u32], leasts: &'a [u32], script: &mut [u32]) -> Result<State<'a>, u32> {
-        let number = self.opening(ceilings, leasts);
+    fn opened<'a>(&self, upper: &'a [u32], lower: &'a [u32], script: &mut [u32]) -> Result<State<'a>, u32> {
+        let number = self.opening(upper, lower);
         if number == 0 {
             return Ok(State {
-                ceilings,
-                leasts,
+                upper,
+                lower,
                 held: Vec::new(),
                 failed: PASSED,
             });
@@ -154,8 +154,8 @@ impl Faulty {
         Err(number)
     }
 
-    pub fn judge_into(&self, ceilings: &[u32], leasts: &[u32], script: &mut [u32]) -> u32 {
-        match self.opened(ceilings, leasts, script) {
+    pub fn judge_into(&self, upper: &[u32], lower: &[u32], script: &mut [u32]) -> u32 {
+        match self.opened(upper, lower, script) {
             Err(number) => number,
             Ok(mut state) => {
                 script.iter_mut().for_each(|entry| *entry = self.monitor_tick(&mut state, *entry));
@@ -164,8 +164,8 @@ impl Faulty {
         }
     }
 
-    pub fn generate_into(&self, ceilings: &[u32], leasts: &[u32], script: &mut [u32]) -> u32 {
-        match self.opened(ceilings, leasts, script) {
+    pub fn generate_into(&self, upper: &[u32], lower: &[u32], script: &mut [u32]) -> u32 {
+        match self.opened(upper, lower, script) {
             Err(number) => number,
             Ok(mut state) => {
                 script.iter_mut().for_each(|entry| *entry = self.generator_tick(&mut state, *entry));

@@ -11,8 +11,8 @@ struct Named {
 }
 
 struct Pair {
-    ceilings: Vec<u32>,
-    leasts: Vec<u32>,
+    upper: Vec<u32>,
+    lower: Vec<u32>,
 }
 
 impl Faulty {
@@ -144,19 +144,19 @@ impl Faulty {
         let longest = named.figures.iter().rposition(|figures| figures.is_some()).unwrap_or(1);
         let horizon = if self.has(HorizonIsRecords) { named.records } else { longest };
         let mut pair = Pair {
-            ceilings: Vec::new(),
-            leasts: Vec::new(),
+            upper: Vec::new(),
+            lower: Vec::new(),
         };
         for window in 1..=horizon {
             let times = if self.has(LengthNotTimed) { 1 } else { window as u32 };
-            let unnamed = (u32::from(self.has(UnnamedLeastOne)), times * most);
-            let (least, ceiling) = named.figures[window].unwrap_or(unnamed);
-            pair.ceilings.push(if self.has(NamedCeilingCut) {
-                ceiling.min(times * smallest)
+            let unnamed = (u32::from(self.has(UnnamedLowerOne)), times * most);
+            let (lower, upper) = named.figures[window].unwrap_or(unnamed);
+            pair.upper.push(if self.has(NamedUpperCut) {
+                upper.min(times * smallest)
             } else {
-                ceiling
+                upper
             });
-            pair.leasts.push(least);
+            pair.lower.push(lower);
         }
         pair
     }
@@ -164,21 +164,21 @@ impl Faulty {
     pub fn read_into(&self, text: &[u8], upper: &mut [u32], lower: &mut [u32]) -> u64 {
         let (named, found) = self.named(text);
         let pair = self.pair(&named);
-        let short = upper.len().min(lower.len()) < pair.ceilings.len();
+        let short = upper.len().min(lower.len()) < pair.upper.len();
         match found {
             Err(7..=9) if self.has(ElevenFirst) && short && named.records > 0 => return refused(11),
             Err(number) => return refused(number),
             Ok(()) => {}
         }
-        let horizon = pair.ceilings.len();
+        let horizon = pair.upper.len();
         if short {
             return refused(11);
         }
-        if self.has(ReadingAsksFive) && pair.leasts.iter().zip(&pair.ceilings).any(|(least, ceiling)| least > ceiling) {
+        if self.has(ReadingAsksFive) && pair.lower.iter().zip(&pair.upper).any(|(lower, upper)| lower > upper) {
             return refused(5);
         }
-        upper[..horizon].copy_from_slice(&pair.ceilings);
-        lower[..horizon].copy_from_slice(&pair.leasts);
+        upper[..horizon].copy_from_slice(&pair.upper);
+        lower[..horizon].copy_from_slice(&pair.lower);
         if self.has(ReadingTailsCleared) {
             upper[horizon..].fill(0);
             lower[horizon..].fill(0);
@@ -194,10 +194,10 @@ impl Faulty {
             return Ok(pair);
         }
         let mut closed = Pair {
-            ceilings: vec![0; pair.ceilings.len()],
-            leasts: vec![0; pair.ceilings.len()],
+            upper: vec![0; pair.upper.len()],
+            lower: vec![0; pair.upper.len()],
         };
-        match refusal_of(self.close_into(&pair.ceilings, &pair.leasts, &mut closed.ceilings, &mut closed.leasts)) {
+        match refusal_of(self.close_into(&pair.upper, &pair.lower, &mut closed.upper, &mut closed.lower)) {
             0 => Ok(closed),
             number => Err(number),
         }
@@ -210,11 +210,11 @@ impl Faulty {
             Ok(pair) => pair,
         };
         let mut written = format!("window,least,most{end}");
-        for (place, (ceiling, least)) in pair.ceilings.iter().zip(&pair.leasts).enumerate() {
+        for (place, (most, least)) in pair.upper.iter().zip(&pair.lower).enumerate() {
             let (first, second) = if self.has(ReportLeastLast) {
-                (ceiling, least)
+                (most, least)
             } else {
-                (least, ceiling)
+                (least, most)
             };
             written += &format!("{},{first},{second}{end}", place + 1);
         }

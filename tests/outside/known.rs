@@ -1,43 +1,45 @@
 //! Figures with answers worked out beforehand, so that the reference is held to something outside itself too.
 
 use crate::closings;
-use crate::pairs::{self, Pair};
+use crate::pairs;
 use crate::random::Rng;
 use crate::reading;
 use crate::reference::Reference;
 use crate::subject::{refused, shown, Subject, LIMIT, NO_COUNT};
 use crate::tally::Tally;
 
+type Figures = &'static [u32];
+
 struct Closing {
-    ceilings: &'static [u32],
-    leasts: &'static [u32],
+    upper: Figures,
+    lower: Figures,
     answer: u64,
-    upper: &'static [u32],
-    lower: &'static [u32],
+    closed_upper: Figures,
+    closed_lower: Figures,
 }
 
-const fn closes(ceilings: &'static [u32], leasts: &'static [u32], rounds: u64, upper: &'static [u32], lower: &'static [u32]) -> Closing {
+const fn closes(upper: Figures, lower: Figures, rounds: u64, closed_upper: Figures, closed_lower: Figures) -> Closing {
     Closing {
-        ceilings,
-        leasts,
-        answer: rounds,
         upper,
         lower,
+        answer: rounds,
+        closed_upper,
+        closed_lower,
     }
 }
 
-const fn refuses(ceilings: &'static [u32], leasts: &'static [u32], number: u64) -> Closing {
+const fn refuses(upper: Figures, lower: Figures, number: u64) -> Closing {
     Closing {
-        ceilings,
-        leasts,
+        upper,
+        lower,
         answer: number << 32,
-        upper: &[],
-        lower: &[],
+        closed_upper: &[],
+        closed_lower: &[],
     }
 }
 
-const ONES: &[u32] = &[1, 2, 3, 4, 5];
-const LOOSE: &[u32] = &[LIMIT, LIMIT, LIMIT, LIMIT, 4, LIMIT];
+const ONES: Figures = &[1, 2, 3, 4, 5];
+const LOOSE: Figures = &[LIMIT, LIMIT, LIMIT, LIMIT, 4, LIMIT];
 
 const CLOSINGS: &[Closing] = &[
     closes(&[7], &[2], 0, &[7], &[2]),
@@ -61,17 +63,17 @@ const CLOSINGS: &[Closing] = &[
 ];
 
 fn check_closing(subject: &dyn Subject, known: &Closing) -> Result<(), String> {
-    let mut upper = vec![9; known.ceilings.len()];
-    let mut lower = upper.clone();
-    let answer = subject.close(known.ceilings, known.leasts, &mut upper, &mut lower);
-    let untouched = answer >> 32 != 0 && upper.iter().chain(&lower).all(|&entry| entry == 9);
-    if answer == known.answer && (untouched || (upper == known.upper && lower == known.lower)) {
+    let mut closed_upper = vec![9; known.upper.len()];
+    let mut closed_lower = closed_upper.clone();
+    let answer = subject.close(known.upper, known.lower, &mut closed_upper, &mut closed_lower);
+    let untouched = answer >> 32 != 0 && closed_upper.iter().chain(&closed_lower).all(|&entry| entry == 9);
+    if answer == known.answer && (untouched || (closed_upper == known.closed_upper && closed_lower == known.closed_lower)) {
         return Ok(());
     }
-    let input = format!("close\n  ceilings {:?}\n  leasts {:?}", known.ceilings, known.leasts);
-    let expected = format!("{}\n  {:?}\n  {:?}", shown(known.answer), known.upper, known.lower);
+    let input = format!("close\n  upper {:?}\n  lower {:?}", known.upper, known.lower);
+    let expected = format!("{}\n  {:?}\n  {:?}", shown(known.answer), known.closed_upper, known.closed_lower);
     Err(format!(
-        "{input}\nexpected {expected}\ncame {}\n  {upper:?}\n  {lower:?}",
+        "{input}\nexpected {expected}\ncame {}\n  {closed_upper:?}\n  {closed_lower:?}",
         shown(answer)
     ))
 }
@@ -84,17 +86,17 @@ fn expect(name: &str, expected: &[u32], came: &[u32]) -> Result<(), String> {
 }
 
 /// The published pair, not closed: the start 0, 2, 1, 0, 2, 0 conforms and has no next count. The choices are those that send it.
-fn check_dead_end(subject: &dyn Subject) -> Result<(), String> {
-    let (ceilings, leasts) = ([3, 6, 3, 12, 9], [0, 0, 0, 0, 5]);
+fn check_no_count(subject: &dyn Subject) -> Result<(), String> {
+    let (upper, lower) = ([3, 6, 3, 12, 9], [0, 0, 0, 0, 5]);
     let mut counts = [0, 2, 1, 0, 2, 0, 0, 1];
-    subject.judge(&ceilings, &leasts, &mut counts);
+    subject.judge(&upper, &lower, &mut counts);
     expect(
         "judge 0, 2, 1, 0, 2, 0, 0, 1 on the published pair",
         &[0, 0, 0, 0, 0, 0, 2_005, 3_000],
         &counts,
     )?;
     let mut choices = [0, 2, 1, 0, 0, 0, 0, 1];
-    subject.generate(&ceilings, &leasts, &mut choices);
+    subject.generate(&upper, &lower, &mut choices);
     expect(
         "generate with 0, 2, 1, 0, 0, 0, 0, 1 on the published pair",
         &[0, 2, 1, 0, 2, 0, NO_COUNT, NO_COUNT],
@@ -104,15 +106,15 @@ fn check_dead_end(subject: &dyn Subject) -> Result<(), String> {
 
 /// On a closed pair, after 2, 1 the counts 0 to 2 can follow, after 2, 1, 0, 2 the counts 0 and 1: the next choice of 2 shows it.
 fn check_bounds(subject: &dyn Subject) -> Result<(), String> {
-    let (ceilings, leasts) = ([2, 3, 5, 5], [0, 0, 1, 3]);
+    let (upper, lower) = ([2, 3, 5, 5], [0, 0, 1, 3]);
     for (choice, count) in [(0, 0), (1, 1), (2, 2), (3, 0), (u32::MAX, 0)] {
         let mut choices = [2, 1, choice];
-        subject.generate(&ceilings, &leasts, &mut choices);
+        subject.generate(&upper, &lower, &mut choices);
         expect(&format!("generate with 2, 1, {choice}"), &[2, 1, count], &choices)?;
     }
     for (choice, count) in [(0, 0), (1, 1), (2, 0), (3, 1)] {
         let mut choices = [2, 1, 0, 2, choice];
-        subject.generate(&ceilings, &leasts, &mut choices);
+        subject.generate(&upper, &lower, &mut choices);
         expect(&format!("generate with 2, 1, 0, 2, {choice}"), &[2, 1, 0, 2, count], &choices)?;
     }
     Ok(())
@@ -169,22 +171,21 @@ fn check_long(subject: &dyn Subject, rng: &mut Rng, tally: &mut Tally) -> Result
         }
     }
     let nine = pairs::nine_rounds();
-    let (ceilings, leasts) = (nine.ceilings.clone(), nine.leasts.clone());
-    let rounds = subject.close(&ceilings, &leasts, &mut [0; 256], &mut [0; 256]);
+    let rounds = subject.close(&nine.upper, &nine.lower, &mut [0; 256], &mut [0; 256]);
     if rounds != 9 {
         return Err(format!(
             "close a ceiling of 200000 for 5 and a least of 10120000 for 253\nexpected 9 rounds\ncame {}",
             shown(rounds)
         ));
     }
-    closings::check(subject, &closings::Case::new(rng, Pair { ceilings, leasts }, 256, 257), true, tally)?;
+    closings::check(subject, &closings::Case::new(rng, nine, 256, 257), true, tally)?;
     let mut long = b"window,least,most\r\n2,0,2\r\n255,255,65535\r\n".to_vec();
     for length in [long.len(), 16_384, 16_385] {
         long.resize(length, b'1');
         reading::check_report(subject, &long, 5_799, tally)?;
     }
     for text in [long, reading::longest_good_text(), vec![b'1'; 16_385]] {
-        reading::check_reading(subject, &text, &rng.rubbish(280), &rng.rubbish(264), tally)?;
+        reading::check_reading(subject, &text, &rng.arbitrary(280), &rng.arbitrary(264), tally)?;
         reading::check_report(subject, &text, 5_799, tally)?;
     }
     Ok(())
@@ -198,7 +199,7 @@ pub fn compare(subject: &dyn Subject, rng: &mut Rng, tally: &mut Tally) -> Resul
         for (text, expected) in TEXTS {
             check_text(implementor, text, expected)?;
         }
-        check_dead_end(implementor)?;
+        check_no_count(implementor)?;
         check_bounds(implementor)?;
         check_long(implementor, rng, tally)?;
     }

@@ -3,7 +3,6 @@
 
 use crate::pairs;
 use crate::reference::Reference;
-use crate::rounds;
 use crate::streams::{bounds, chosen, verdict};
 use crate::subject::{Subject, LIMIT, LONGEST_HORIZON, PASSED, TOO_FEW, TOO_MANY};
 
@@ -25,42 +24,39 @@ fn digest(numbers: &[u32]) -> u64 {
 }
 
 /// One line on a pair of lists with the same figures throughout.
-fn lists_line(n: usize, ceiling: u32, least: u32) -> String {
-    let (ceilings, leasts) = (vec![ceiling; n], vec![least; n]);
-    let (mut upper, mut lower) = ([7; LONGEST_HORIZON + 1], [7; LONGEST_HORIZON + 1]);
-    let answer = Reference.close(&ceilings, &leasts, &mut upper, &mut lower);
+fn lists_line(n: usize, upper_figure: u32, lower_figure: u32) -> String {
+    let (upper, lower) = (vec![upper_figure; n], vec![lower_figure; n]);
+    let (mut closed_upper, mut closed_lower) = ([7; LONGEST_HORIZON + 1], [7; LONGEST_HORIZON + 1]);
+    let answer = Reference.close(&upper, &lower, &mut closed_upper, &mut closed_lower);
     let mut counts = [LIMIT, LIMIT + 1];
-    let judged = Reference.judge(&ceilings, &leasts, &mut counts);
+    let judged = Reference.judge(&upper, &lower, &mut counts);
     let mut choices = [LIMIT, LIMIT + 1];
-    let sent = Reference.generate(&ceilings, &leasts, &mut choices);
-    let results = format!("{answer} {} {}", digest(&upper), digest(&lower));
+    let sent = Reference.generate(&upper, &lower, &mut choices);
+    let results = format!("{answer} {} {}", digest(&closed_upper), digest(&closed_lower));
     format!(
-        "lists {n} {ceiling} {least} {results} {judged} {} {sent} {}",
+        "lists {n} {upper_figure} {lower_figure} {results} {judged} {} {sent} {}",
         digest(&counts),
         digest(&choices)
     )
 }
 
-/// One line on a pair: how its rounds end, and what closing it answers.
-fn rounds_line(ceilings: &[u32], leasts: &[u32]) -> String {
-    let stop = rounds::run(ceilings, leasts);
-    let ending = if stop.curves.crosses() { "crossed" } else { "arrived" };
-    let (mut upper, mut lower) = ([7; LONGEST_HORIZON], [7; LONGEST_HORIZON]);
-    let answer = Reference.close(ceilings, leasts, &mut upper, &mut lower);
+/// One line on a pair of many rounds: what closing it answers, and the result lists after it.
+fn rounds_line(upper: &[u32], lower: &[u32]) -> String {
+    let (mut closed_upper, mut closed_lower) = ([7; LONGEST_HORIZON], [7; LONGEST_HORIZON]);
+    let answer = Reference.close(upper, lower, &mut closed_upper, &mut closed_lower);
     format!(
-        "rounds {} {ending} {} {answer} {} {}",
-        ceilings.len(),
-        stop.rounds,
-        digest(&upper),
-        digest(&lower)
+        "rounds {} {answer} {} {}",
+        upper.len(),
+        digest(&closed_upper),
+        digest(&closed_lower)
     )
 }
 
 /// The same on the pair of a text.
 fn text_line(text: &[u8]) -> String {
-    let (mut ceilings, mut leasts) = ([0; LONGEST_HORIZON], [0; LONGEST_HORIZON]);
-    let horizon = Reference.read(text, &mut ceilings, &mut leasts) as usize;
-    rounds_line(&ceilings[..horizon], &leasts[..horizon])
+    let (mut upper, mut lower) = ([0; LONGEST_HORIZON], [0; LONGEST_HORIZON]);
+    let horizon = Reference.read(text, &mut upper, &mut lower) as usize;
+    rounds_line(&upper[..horizon], &lower[..horizon])
 }
 
 struct State {
@@ -109,14 +105,14 @@ fn draw_state(case: u64) -> State {
 impl State {
     fn is_legal(&self) -> bool {
         let sizes = 1 <= self.horizon && self.horizon <= LONGEST_HORIZON as u64 && self.held < self.horizon;
-        sizes && self.ceilings().iter().chain(self.leasts()).all(|&figure| figure <= LIMIT)
+        sizes && self.upper_curve().iter().chain(self.lower_curve()).all(|&figure| figure <= LIMIT)
     }
 
-    fn ceilings(&self) -> &[u32] {
+    fn upper_curve(&self) -> &[u32] {
         &self.upper[..self.horizon as usize]
     }
 
-    fn leasts(&self) -> &[u32] {
+    fn lower_curve(&self) -> &[u32] {
         &self.lower[..self.horizon as usize]
     }
 
@@ -145,8 +141,8 @@ impl State {
         format!(
             "{} {held} {} {} {ticks}",
             self.horizon,
-            digest(self.ceilings()),
-            digest(self.leasts())
+            digest(self.upper_curve()),
+            digest(self.lower_curve())
         )
     }
 
@@ -159,7 +155,7 @@ impl State {
         }
         let mut stream = self.stream().to_vec();
         stream.push(count);
-        match verdict(self.ceilings(), self.leasts(), &stream) {
+        match verdict(self.upper_curve(), self.lower_curve(), &stream) {
             PASSED => format!("0 0 0 {}", self.with(count)),
             few if few > TOO_FEW => format!("2 {} 1 {}", few - TOO_FEW, self.whole()),
             many => format!("1 {} 1 {}", many - TOO_MANY, self.whole()),
@@ -170,7 +166,7 @@ impl State {
         if !self.is_legal() {
             return format!("12 0 12 0 {}", self.whole());
         }
-        match bounds(self.ceilings(), self.leasts(), self.stream()) {
+        match bounds(self.upper_curve(), self.lower_curve(), self.stream()) {
             None => format!("13 0 13 0 {}", self.whole()),
             Some((lo, hi)) => format!("{lo} {hi} 0 {} {}", chosen(lo, hi, choice), self.with(chosen(lo, hi, choice))),
         }
@@ -189,12 +185,12 @@ fn lines() -> Vec<String> {
     let lengths = [0, 1, LONGEST_HORIZON, LONGEST_HORIZON + 1];
     let lists = lengths
         .iter()
-        .flat_map(|&n| figures.iter().map(move |&(ceiling, least)| lists_line(n, ceiling, least)));
+        .flat_map(|&n| figures.iter().map(move |&(upper, lower)| lists_line(n, upper, lower)));
     let nine = pairs::nine_rounds();
     let longest = [
         text_line(b"window,least,most\r\n2,0,2\r\n255,255,65535\r\n"),
         text_line(b"window,least,most\r\n2,0,2\r\n255,256,65535\r\n"),
-        rounds_line(&nine.ceilings, &nine.leasts),
+        rounds_line(&nine.upper, &nine.lower),
     ];
     lists.chain(longest).chain((1..=CASES).map(state_line)).collect()
 }

@@ -12,7 +12,7 @@ mod faults;
 mod faulty_closing;
 mod faulty_streams;
 mod faulty_text;
-mod futures;
+mod extensions;
 mod known;
 mod limits;
 mod mutants;

@@ -11,8 +11,8 @@ use crate::subject::Subject;
 use crate::workers::locked;
 
 impl Subject for Faulty {
-    fn close(&self, ceilings: &[u32], leasts: &[u32], upper: &mut [u32], lower: &mut [u32]) -> u64 {
-        self.close_into(ceilings, leasts, upper, lower)
+    fn close(&self, upper: &[u32], lower: &[u32], closed_upper: &mut [u32], closed_lower: &mut [u32]) -> u64 {
+        self.close_into(upper, lower, closed_upper, closed_lower)
     }
 
     fn read(&self, text: &[u8], upper: &mut [u32], lower: &mut [u32]) -> u64 {
@@ -23,12 +23,12 @@ impl Subject for Faulty {
         self.report_into(text, output)
     }
 
-    fn judge(&self, ceilings: &[u32], leasts: &[u32], script: &mut [u32]) -> u32 {
-        self.judge_into(ceilings, leasts, script)
+    fn judge(&self, upper: &[u32], lower: &[u32], script: &mut [u32]) -> u32 {
+        self.judge_into(upper, lower, script)
     }
 
-    fn generate(&self, ceilings: &[u32], leasts: &[u32], script: &mut [u32]) -> u32 {
-        self.generate_into(ceilings, leasts, script)
+    fn generate(&self, upper: &[u32], lower: &[u32], script: &mut [u32]) -> u32 {
+        self.generate_into(upper, lower, script)
     }
 }
 
@@ -94,9 +94,9 @@ pub fn run(seed: u64) -> usize {
     for ((_, description), caught) in MUTANTS.iter().zip(run_all(seed)) {
         let promises = if caught.by_promises { ", and by the promises" } else { "" };
         match caught.first {
-            Some((name, case)) => println!("  {description:<48} caught by {name}, case {case}{promises}"),
+            Some((name, case)) => println!("  {description:<50} caught by {name}, case {case}{promises}"),
             None => {
-                println!("  {description:<48} NOT CAUGHT");
+                println!("  {description:<50} NOT CAUGHT");
                 missed += 1;
             }
         }

@@ -6,15 +6,15 @@ use crate::subject::{LIMIT, LONGEST_HORIZON};
 
 #[derive(Clone, PartialEq)]
 pub struct Pair {
-    pub ceilings: Vec<u32>,
-    pub leasts: Vec<u32>,
+    pub upper: Vec<u32>,
+    pub lower: Vec<u32>,
 }
 
 impl Pair {
-    fn filled(horizon: usize, ceiling: u32, least: u32) -> Pair {
+    fn filled(horizon: usize, upper: u32, lower: u32) -> Pair {
         Pair {
-            ceilings: vec![ceiling; horizon],
-            leasts: vec![least; horizon],
+            upper: vec![upper; horizon],
+            lower: vec![lower; horizon],
         }
     }
 
@@ -24,25 +24,25 @@ impl Pair {
     }
 
     pub fn horizon(&self) -> usize {
-        self.ceilings.len()
+        self.upper.len()
     }
 
-    fn set_ceiling(&mut self, window: usize, figure: u64) {
-        self.ceilings[window - 1] = figure.min(u64::from(LIMIT)) as u32;
+    fn set_upper(&mut self, window: usize, figure: u64) {
+        self.upper[window - 1] = figure.min(u64::from(LIMIT)) as u32;
     }
 
-    fn set_least(&mut self, window: usize, figure: u64) {
-        self.leasts[window - 1] = figure.min(u64::from(LIMIT)) as u32;
+    fn set_lower(&mut self, window: usize, figure: u64) {
+        self.lower[window - 1] = figure.min(u64::from(LIMIT)) as u32;
     }
 }
 
 /// The closure where there is one, else the pair itself.
 pub fn closed(pair: &Pair) -> Pair {
-    match rounds::close(&pair.ceilings, &pair.leasts) {
+    match rounds::close(&pair.upper, &pair.lower) {
         None => pair.clone(),
         Some(closed) => Pair {
-            ceilings: rounds::narrowed(&closed.curves.ceilings),
-            leasts: rounds::narrowed(&closed.curves.leasts),
+            upper: rounds::narrowed(&closed.curves.upper),
+            lower: rounds::narrowed(&closed.curves.lower),
         },
     }
 }
@@ -58,11 +58,11 @@ pub fn long_horizon(rng: &mut Rng) -> usize {
 /// Dense small figures in no order: they cross often.
 fn small(rng: &mut Rng, horizon: usize) -> Pair {
     let most = rng.pick(&[1, 2, 3, 5, 9, 20]);
-    let lowest = rng.pick(&[1, 1, 2, 4]);
+    let divisor = rng.pick(&[1, 1, 2, 4]);
     let mut pair = Pair::filled(horizon, 0, 0);
     for window in 0..horizon {
-        pair.ceilings[window] = rng.below(most + 1) + rng.below(window as u32 + 1);
-        pair.leasts[window] = rng.below(most + 1) / lowest;
+        pair.upper[window] = rng.below(most + 1) + rng.below(window as u32 + 1);
+        pair.lower[window] = rng.below(most + 1) / divisor;
     }
     pair
 }
@@ -76,8 +76,8 @@ fn about_a_rate(rng: &mut Rng, horizon: usize) -> Pair {
     let mut pair = Pair::filled(horizon, 0, 0);
     for window in 1..=horizon {
         let share = window as u64 * events;
-        pair.set_ceiling(window, share.div_ceil(ticks) + u64::from(rng.below(slack)));
-        pair.set_least(window, (share / ticks + tighter).saturating_sub(u64::from(rng.below(slack))));
+        pair.set_upper(window, share.div_ceil(ticks) + u64::from(rng.below(slack)));
+        pair.set_lower(window, (share / ticks + tighter).saturating_sub(u64::from(rng.below(slack))));
     }
     pair
 }
@@ -86,12 +86,12 @@ fn about_a_rate(rng: &mut Rng, horizon: usize) -> Pair {
 fn increasing(rng: &mut Rng, horizon: usize) -> Pair {
     let most = rng.pick(&[2, 4, 10, 500, 60_000]);
     let mut pair = Pair::filled(horizon, 0, 0);
-    let (mut ceiling, mut least) = (u64::from(rng.below(most)), 0);
+    let (mut upper, mut lower) = (u64::from(rng.below(most)), 0);
     for window in 1..=horizon {
-        ceiling += u64::from(rng.below(most));
-        least += u64::from(rng.below(most / 2));
-        pair.set_ceiling(window, ceiling);
-        pair.set_least(window, least);
+        upper += u64::from(rng.below(most));
+        lower += u64::from(rng.below(most / 2));
+        pair.set_upper(window, upper);
+        pair.set_lower(window, lower);
     }
     pair
 }
@@ -107,9 +107,9 @@ fn from_triples(rng: &mut Rng, horizon: usize) -> Pair {
     let smallest = named.iter().flatten().copied().min().unwrap_or(0);
     let mut pair = Pair::filled(horizon, 0, 0);
     for window in 1..=horizon {
-        pair.set_ceiling(window, named[window - 1].map_or(u64::from(smallest) * window as u64, u64::from));
+        pair.set_upper(window, named[window - 1].map_or(u64::from(smallest) * window as u64, u64::from));
         if named[window - 1].is_some() {
-            pair.set_least(window, u64::from(rng.below(smallest + 1)) * rng.pick(&[0, 1, window as u64 / 2]));
+            pair.set_lower(window, u64::from(rng.below(smallest + 1)) * rng.pick(&[0, 1, window as u64 / 2]));
         }
     }
     pair
@@ -125,11 +125,11 @@ pub fn two_windows(rng: &mut Rng, horizon: usize) -> Pair {
     } else {
         rng.length(1, horizon)
     };
-    let ceiling = rng.pick(&[1u64, 7, 4_000, 30_000]) * few as u64 + u64::from(rng.below(2));
-    pair.set_ceiling(few, ceiling);
-    pair.set_least(
+    let upper = rng.pick(&[1u64, 7, 4_000, 30_000]) * few as u64 + u64::from(rng.below(2));
+    pair.set_upper(few, upper);
+    pair.set_lower(
         many,
-        (ceiling * many as u64 / few as u64 + u64::from(rng.below(2))).saturating_sub(u64::from(rng.below(3))),
+        (upper * many as u64 / few as u64 + u64::from(rng.below(2))).saturating_sub(u64::from(rng.below(3))),
     );
     pair
 }
@@ -137,8 +137,8 @@ pub fn two_windows(rng: &mut Rng, horizon: usize) -> Pair {
 /// The pair with the most rounds of all: nine.
 pub fn nine_rounds() -> Pair {
     let mut pair = Pair::loose(LONGEST_HORIZON);
-    pair.set_ceiling(5, 200_000);
-    pair.set_least(253, 10_120_000);
+    pair.set_upper(5, 200_000);
+    pair.set_lower(253, 10_120_000);
     pair
 }
 
@@ -146,8 +146,8 @@ pub fn nine_rounds() -> Pair {
 fn extremes(rng: &mut Rng, horizon: usize) -> Pair {
     let mut pair = Pair::loose(horizon);
     for window in 0..horizon {
-        pair.ceilings[window] = rng.pick(&[LIMIT, LIMIT, LIMIT - 1, LIMIT / 2, 1, 0]);
-        pair.leasts[window] = rng.pick(&[0, 0, 0, 1, LIMIT / 2, LIMIT - 1, LIMIT]);
+        pair.upper[window] = rng.pick(&[LIMIT, LIMIT, LIMIT - 1, LIMIT / 2, 1, 0]);
+        pair.lower[window] = rng.pick(&[0, 0, 0, 1, LIMIT / 2, LIMIT - 1, LIMIT]);
     }
     pair
 }
@@ -156,8 +156,8 @@ fn extremes(rng: &mut Rng, horizon: usize) -> Pair {
 fn anything(rng: &mut Rng, horizon: usize) -> Pair {
     let mut pair = Pair::filled(horizon, 0, 0);
     for window in 0..horizon {
-        pair.ceilings[window] = rng.between(0, LIMIT);
-        pair.leasts[window] = rng.between(0, LIMIT) / rng.pick(&[1, 8, 300]);
+        pair.upper[window] = rng.between(0, LIMIT);
+        pair.lower[window] = rng.between(0, LIMIT) / rng.pick(&[1, 8, 300]);
     }
     pair
 }
@@ -168,12 +168,12 @@ fn nearly_closed(rng: &mut Rng, horizon: usize) -> Pair {
     let mut pair = closed(&base);
     let window = rng.length(1, horizon);
     let step = u64::from(rng.between(1, 2));
-    let (ceiling, least) = (u64::from(pair.ceilings[window - 1]), u64::from(pair.leasts[window - 1]));
+    let (upper, lower) = (u64::from(pair.upper[window - 1]), u64::from(pair.lower[window - 1]));
     match rng.below(4) {
-        0 => pair.set_ceiling(window, ceiling + step),
-        1 => pair.set_ceiling(window, ceiling.saturating_sub(step)),
-        2 => pair.set_least(window, least + step),
-        _ => pair.set_least(window, least.saturating_sub(step)),
+        0 => pair.set_upper(window, upper + step),
+        1 => pair.set_upper(window, upper.saturating_sub(step)),
+        2 => pair.set_lower(window, lower + step),
+        _ => pair.set_lower(window, lower.saturating_sub(step)),
     }
     pair
 }
@@ -189,12 +189,12 @@ fn loosened(rng: &mut Rng, horizon: usize) -> Pair {
     let far = rng.pick(&[3, 30, 100_000]);
     for window in 1..=horizon {
         if rng.one_in(2) {
-            let ceiling = u64::from(pair.ceilings[window - 1]);
-            pair.set_ceiling(window, ceiling + u64::from(rng.below(far)));
+            let upper = u64::from(pair.upper[window - 1]);
+            pair.set_upper(window, upper + u64::from(rng.below(far)));
         }
         if rng.one_in(2) {
-            let least = u64::from(pair.leasts[window - 1]);
-            pair.set_least(window, least.saturating_sub(u64::from(rng.below(far))));
+            let lower = u64::from(pair.lower[window - 1]);
+            pair.set_lower(window, lower.saturating_sub(u64::from(rng.below(far))));
         }
     }
     pair
@@ -204,8 +204,8 @@ fn loosened(rng: &mut Rng, horizon: usize) -> Pair {
 fn crossing(rng: &mut Rng, horizon: usize) -> Pair {
     let mut pair = about_a_rate(rng, horizon);
     let window = rng.length(1, horizon);
-    let ceiling = u64::from(pair.ceilings[window - 1]);
-    pair.set_least(window, ceiling + u64::from(rng.between(1, 4)));
+    let upper = u64::from(pair.upper[window - 1]);
+    pair.set_lower(window, upper + u64::from(rng.between(1, 4)));
     pair
 }
 

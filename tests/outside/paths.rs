@@ -22,14 +22,14 @@
 const FAR: i64 = i64::MAX / 4;
 
 /// The cheapest walks from the middle place, or nothing where there is a negative circle.
-fn distances(ceilings: &[u32], leasts: &[u32]) -> Option<Vec<i64>> {
-    let horizon = ceilings.len();
+fn distances(upper: &[u32], lower: &[u32]) -> Option<Vec<i64>> {
+    let horizon = upper.len();
     let places = 2 * horizon + 1;
     let mut distance = vec![FAR; places];
     distance[horizon] = 0;
     // A cheapest walk without a circle has fewer steps than there are places; each pass settles one more step of it at least.
     for _ in 0..places {
-        if !relax(ceilings, leasts, &mut distance) {
+        if !relax(upper, lower, &mut distance) {
             return Some(distance);
         }
     }
@@ -37,17 +37,17 @@ fn distances(ceilings: &[u32], leasts: &[u32]) -> Option<Vec<i64>> {
 }
 
 /// One pass over all steps; whether it made any walk cheaper.
-fn relax(ceilings: &[u32], leasts: &[u32], distance: &mut [i64]) -> bool {
+fn relax(upper: &[u32], lower: &[u32], distance: &mut [i64]) -> bool {
     let mut changed = false;
     for from in 0..distance.len() {
-        for d in 1..=ceilings.len().min(distance.len() - 1 - from) {
+        for d in 1..=upper.len().min(distance.len() - 1 - from) {
             let to = from + d;
-            let up = distance[from] + i64::from(ceilings[d - 1]);
+            let up = distance[from] + i64::from(upper[d - 1]);
             if up < distance[to] {
                 distance[to] = up;
                 changed = true;
             }
-            let down = distance[to] - i64::from(leasts[d - 1]);
+            let down = distance[to] - i64::from(lower[d - 1]);
             if down < distance[from] {
                 distance[from] = down;
                 changed = true;
@@ -58,17 +58,17 @@ fn relax(ceilings: &[u32], leasts: &[u32], distance: &mut [i64]) -> bool {
 }
 
 /// The closure's ceilings and leasts, or nothing where there is none.
-pub fn close(ceilings: &[u32], leasts: &[u32]) -> Option<(Vec<u32>, Vec<u32>)> {
-    let horizon = ceilings.len();
-    let distance = distances(ceilings, leasts)?;
-    let upper = (1..=horizon).map(|d| distance[horizon + d] as u32).collect();
-    let lower = (1..=horizon).map(|d| (-distance[horizon - d]) as u32).collect();
-    Some((upper, lower))
+pub fn close(upper: &[u32], lower: &[u32]) -> Option<(Vec<u32>, Vec<u32>)> {
+    let horizon = upper.len();
+    let distance = distances(upper, lower)?;
+    let closed_upper = (1..=horizon).map(|d| distance[horizon + d] as u32).collect();
+    let closed_lower = (1..=horizon).map(|d| (-distance[horizon - d]) as u32).collect();
+    Some((closed_upper, closed_lower))
 }
 
 /// Whether some window a asks for more a tick than some window b allows. Then a times b ticks cannot be filled. Where there is no such
 /// two, the smallest rate U(b) / b, spread as evenly as whole counts can be, keeps every figure: so this alone decides.
-pub fn rates_conflict(ceilings: &[u32], leasts: &[u32]) -> bool {
-    let asks_more = |a: usize, b: usize| (a as u64) * u64::from(ceilings[b - 1]) < (b as u64) * u64::from(leasts[a - 1]);
-    (1..=leasts.len()).any(|a| (1..=ceilings.len()).any(|b| asks_more(a, b)))
+pub fn rates_conflict(upper: &[u32], lower: &[u32]) -> bool {
+    let asks_more = |a: usize, b: usize| (a as u64) * u64::from(upper[b - 1]) < (b as u64) * u64::from(lower[a - 1]);
+    (1..=lower.len()).any(|a| (1..=upper.len()).any(|b| asks_more(a, b)))
 }

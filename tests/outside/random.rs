@@ -32,12 +32,12 @@ impl Rng {
         self.any() % end
     }
 
-    pub fn between(&mut self, least: u32, most: u32) -> u32 {
-        least + self.below(most - least + 1)
+    pub fn between(&mut self, first: u32, last: u32) -> u32 {
+        first + self.below(last - first + 1)
     }
 
-    pub fn length(&mut self, least: usize, most: usize) -> usize {
-        self.between(least as u32, most as u32) as usize
+    pub fn length(&mut self, first: usize, last: usize) -> usize {
+        self.between(first as u32, last as u32) as usize
     }
 
     pub fn one_in(&mut self, times: u32) -> bool {
@@ -49,7 +49,7 @@ impl Rng {
     }
 
     /// Entries that a result list may hold before a call: anything.
-    pub fn rubbish(&mut self, length: usize) -> Vec<u32> {
+    pub fn arbitrary(&mut self, length: usize) -> Vec<u32> {
         (0..length).map(|_| self.any()).collect()
     }
 }

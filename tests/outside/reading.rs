@@ -79,8 +79,8 @@ pub fn compare_reading(subject: &dyn Subject, rng: &mut Rng, tally: &mut Tally) 
     check_reading(
         subject,
         &text,
-        &rng.rubbish(upper_length + 2 * MARGIN),
-        &rng.rubbish(lower_length + 2 * MARGIN),
+        &rng.arbitrary(upper_length + 2 * MARGIN),
+        &rng.arbitrary(lower_length + 2 * MARGIN),
         tally,
     )?;
     let room = match rng.below(6) {

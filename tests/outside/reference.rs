@@ -6,8 +6,8 @@ use crate::{rounds, streams, text};
 pub struct Reference;
 
 impl Subject for Reference {
-    fn close(&self, ceilings: &[u32], leasts: &[u32], upper: &mut [u32], lower: &mut [u32]) -> u64 {
-        rounds::close_into(ceilings, leasts, upper, lower)
+    fn close(&self, upper: &[u32], lower: &[u32], closed_upper: &mut [u32], closed_lower: &mut [u32]) -> u64 {
+        rounds::close_into(upper, lower, closed_upper, closed_lower)
     }
 
     fn read(&self, text: &[u8], upper: &mut [u32], lower: &mut [u32]) -> u64 {
@@ -18,11 +18,11 @@ impl Subject for Reference {
         text::report_into(text, output)
     }
 
-    fn judge(&self, ceilings: &[u32], leasts: &[u32], script: &mut [u32]) -> u32 {
-        streams::judge_into(ceilings, leasts, script)
+    fn judge(&self, upper: &[u32], lower: &[u32], script: &mut [u32]) -> u32 {
+        streams::judge_into(upper, lower, script)
     }
 
-    fn generate(&self, ceilings: &[u32], leasts: &[u32], script: &mut [u32]) -> u32 {
-        streams::generate_into(ceilings, leasts, script)
+    fn generate(&self, upper: &[u32], lower: &[u32], script: &mut [u32]) -> u32 {
+        streams::generate_into(upper, lower, script)
     }
 }

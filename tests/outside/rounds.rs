@@ -6,8 +6,8 @@ use crate::subject::{refused, LIMIT, LONGEST_HORIZON};
 /// Two curves; entry d is the window of d ticks, and entry 0 is not used.
 #[derive(Clone, PartialEq)]
 pub struct Curves {
-    pub ceilings: Vec<i64>,
-    pub leasts: Vec<i64>,
+    pub upper: Vec<i64>,
+    pub lower: Vec<i64>,
 }
 
 /// The figures that the rounds stop at, and how many of them changed one.
@@ -28,27 +28,27 @@ pub fn narrowed(curve: &[i64]) -> Vec<u32> {
 }
 
 impl Curves {
-    pub fn new(ceilings: &[u32], leasts: &[u32]) -> Curves {
+    pub fn new(upper: &[u32], lower: &[u32]) -> Curves {
         Curves {
-            ceilings: widened(ceilings),
-            leasts: widened(leasts),
+            upper: widened(upper),
+            lower: widened(lower),
         }
     }
 
     pub fn horizon(&self) -> usize {
-        self.ceilings.len() - 1
+        self.upper.len() - 1
     }
 
     pub fn crosses(&self) -> bool {
-        (1..=self.horizon()).any(|d| self.leasts[d] > self.ceilings[d])
+        (1..=self.horizon()).any(|d| self.lower[d] > self.upper[d])
     }
 
-    fn lower_ceiling(&mut self, d: usize, candidate: i64) {
-        self.ceilings[d] = self.ceilings[d].min(candidate);
+    fn tighten_upper(&mut self, d: usize, candidate: i64) {
+        self.upper[d] = self.upper[d].min(candidate);
     }
 
-    fn raise_least(&mut self, d: usize, candidate: i64) {
-        self.leasts[d] = self.leasts[d].max(candidate);
+    fn tighten_lower(&mut self, d: usize, candidate: i64) {
+        self.lower[d] = self.lower[d].max(candidate);
     }
 }
 
@@ -57,19 +57,19 @@ fn round(old: &Curves) -> Curves {
     let mut new = old.clone();
     for d in 1..=horizon {
         for a in 1..d {
-            new.lower_ceiling(d, old.ceilings[a] + old.ceilings[d - a]);
-            new.raise_least(d, old.leasts[a] + old.leasts[d - a]);
+            new.tighten_upper(d, old.upper[a] + old.upper[d - a]);
+            new.tighten_lower(d, old.lower[a] + old.lower[d - a]);
         }
         for t in 1..=horizon - d {
-            new.lower_ceiling(d, old.ceilings[d + t] - old.leasts[t]);
-            new.raise_least(d, old.leasts[d + t] - old.ceilings[t]);
+            new.tighten_upper(d, old.upper[d + t] - old.lower[t]);
+            new.tighten_lower(d, old.lower[d + t] - old.upper[t]);
         }
     }
     new
 }
 
-pub fn run(ceilings: &[u32], leasts: &[u32]) -> Stop {
-    let mut curves = Curves::new(ceilings, leasts);
+pub fn run(upper: &[u32], lower: &[u32]) -> Stop {
+    let mut curves = Curves::new(upper, lower);
     let mut rounds = 0;
     while !curves.crosses() {
         let next = round(&curves);
@@ -83,40 +83,41 @@ pub fn run(ceilings: &[u32], leasts: &[u32]) -> Stop {
 }
 
 /// The closure and its count of changing rounds, or nothing where the figures cross.
-pub fn close(ceilings: &[u32], leasts: &[u32]) -> Option<Stop> {
-    Some(run(ceilings, leasts)).filter(|stop| !stop.curves.crosses())
+pub fn close(upper: &[u32], lower: &[u32]) -> Option<Stop> {
+    Some(run(upper, lower)).filter(|stop| !stop.curves.crosses())
 }
 
-/// Questions 1, 2 and 4, as an opening asks them; closing asks 3 before 4. 0 where all are answered well.
-pub fn opening(ceilings: &[u32], leasts: &[u32], results: Option<(usize, usize)>) -> u32 {
-    let horizon = ceilings.len();
+/// Questions 1, 2 and 4, as an opening asks them; closing, with the lengths of its result lists, asks 3 before 4. 0 where all are
+/// answered well.
+pub fn opening(upper: &[u32], lower: &[u32], results: Option<(usize, usize)>) -> u32 {
+    let horizon = upper.len();
     if horizon < 1 || horizon > LONGEST_HORIZON {
         return 1;
     }
-    if leasts.len() != horizon {
+    if lower.len() != horizon {
         return 2;
     }
-    if results.is_some_and(|(upper, lower)| upper < horizon || lower < horizon) {
+    if results.is_some_and(|(closed_upper, closed_lower)| closed_upper < horizon || closed_lower < horizon) {
         return 3;
     }
-    if ceilings.iter().chain(leasts).any(|&figure| figure > LIMIT) {
+    if upper.iter().chain(lower).any(|&figure| figure > LIMIT) {
         return 4;
     }
     0
 }
 
 /// Closing as a whole: the questions, then the closure into the first entries of the result lists.
-pub fn close_into(ceilings: &[u32], leasts: &[u32], upper: &mut [u32], lower: &mut [u32]) -> u64 {
-    let number = opening(ceilings, leasts, Some((upper.len(), lower.len())));
+pub fn close_into(upper: &[u32], lower: &[u32], closed_upper: &mut [u32], closed_lower: &mut [u32]) -> u64 {
+    let number = opening(upper, lower, Some((closed_upper.len(), closed_lower.len())));
     if number != 0 {
         return refused(number);
     }
-    match close(ceilings, leasts) {
+    match close(upper, lower) {
         None => refused(5),
         Some(closed) => {
-            let horizon = ceilings.len();
-            upper[..horizon].copy_from_slice(&narrowed(&closed.curves.ceilings));
-            lower[..horizon].copy_from_slice(&narrowed(&closed.curves.leasts));
+            let horizon = upper.len();
+            closed_upper[..horizon].copy_from_slice(&narrowed(&closed.curves.upper));
+            closed_lower[..horizon].copy_from_slice(&narrowed(&closed.curves.lower));
             u64::from(closed.rounds)
         }
     }

@@ -27,12 +27,12 @@ fn pair(rng: &mut Rng) -> Pair {
 /// One fault that an opening is refused for.
 pub fn spoil(rng: &mut Rng, pair: &mut Pair) {
     match rng.below(5) {
-        0 => pair.ceilings.clear(),
-        1 => pair.ceilings.resize(rng.length(257, 300), 1),
-        2 => pair.leasts.push(0),
-        3 => pair.leasts.truncate(pair.leasts.len().saturating_sub(1)),
+        0 => pair.upper.clear(),
+        1 => pair.upper.resize(rng.length(257, 300), 1),
+        2 => pair.lower.push(0),
+        3 => pair.lower.truncate(pair.lower.len().saturating_sub(1)),
         _ => {
-            let list = if rng.one_in(2) { &mut pair.ceilings } else { &mut pair.leasts };
+            let list = if rng.one_in(2) { &mut pair.upper } else { &mut pair.lower };
             let place = rng.length(0, list.len().saturating_sub(1));
             if let Some(figure) = list.get_mut(place) {
                 *figure = rng.pick(&[LIMIT + 1, u32::MAX]);
@@ -51,7 +51,7 @@ fn choices(rng: &mut Rng, length: usize) -> Vec<u32> {
 /// Counts that keep the pair for as long as it can be kept, then anything.
 fn kept_counts(rng: &mut Rng, pair: &Pair, length: usize) -> Vec<u32> {
     let list = choices(rng, length);
-    let mut counts = sent(&pair.ceilings, &pair.leasts, &list);
+    let mut counts = sent(&pair.upper, &pair.lower, &list);
     for count in counts.iter_mut().filter(|count| **count == NO_COUNT) {
         *count = rng.below(5);
     }
@@ -89,8 +89,8 @@ fn between_crossed(rng: &mut Rng) -> (Pair, Vec<u32>) {
     let counts: Vec<u32> = (0..window + rng.length(0, 3)).map(|_| rng.below(4)).collect();
     let total: u32 = counts[..window].iter().sum();
     let mut pair = Pair::loose(window + rng.length(0, 2));
-    pair.ceilings[window - 1] = total.saturating_sub(1);
-    pair.leasts[window - 1] = total + 1;
+    pair.upper[window - 1] = total.saturating_sub(1);
+    pair.lower[window - 1] = total + 1;
     (pair, counts)
 }
 
@@ -102,8 +102,8 @@ fn one_window(rng: &mut Rng) -> (Pair, Vec<u32>) {
     let circle: Vec<u32> = (0..window).map(|_| rng.below(5)).collect();
     let total: u32 = circle.iter().sum();
     let mut pair = Pair::loose(horizon);
-    pair.ceilings[window - 1] = total + rng.below(2);
-    pair.leasts[window - 1] = total.saturating_sub(rng.below(2));
+    pair.upper[window - 1] = total + rng.below(2);
+    pair.lower[window - 1] = total.saturating_sub(rng.below(2));
     let length = horizon + rng.length(0, 60);
     let mut counts: Vec<u32> = circle.iter().copied().cycle().take(length).collect();
     let place = rng.length(0, length - 1);
@@ -130,7 +130,7 @@ pub fn for_generator(rng: &mut Rng) -> (Pair, Vec<u32>) {
     if rng.one_in(10) {
         let (mut pair, counts) = one_window(rng);
         if rng.one_in(2) {
-            pair.ceilings[0] = pair.ceilings[0].min(rng.below(8));
+            pair.upper[0] = pair.upper[0].min(rng.below(8));
         }
         let end = rng.pick(&[2, 3, 7]);
         let script = counts.iter().map(|_| rng.below(end)).collect();

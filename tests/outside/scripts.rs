@@ -14,19 +14,19 @@ const MARGIN: usize = 4;
 
 type Operation = fn(&dyn Subject, &[u32], &[u32], &mut [u32]) -> u32;
 
-fn judge(subject: &dyn Subject, ceilings: &[u32], leasts: &[u32], script: &mut [u32]) -> u32 {
-    subject.judge(ceilings, leasts, script)
+fn judge(subject: &dyn Subject, upper: &[u32], lower: &[u32], script: &mut [u32]) -> u32 {
+    subject.judge(upper, lower, script)
 }
 
-fn generate(subject: &dyn Subject, ceilings: &[u32], leasts: &[u32], script: &mut [u32]) -> u32 {
-    subject.generate(ceilings, leasts, script)
+fn generate(subject: &dyn Subject, upper: &[u32], lower: &[u32], script: &mut [u32]) -> u32 {
+    subject.generate(upper, lower, script)
 }
 
 fn put_to(subject: &dyn Subject, operation: Operation, pair: &Pair, script: &[u32]) -> (u32, Vec<u32>) {
     let mut list = vec![77; script.len() + 2 * MARGIN];
     let end = MARGIN + script.len();
     list[MARGIN..end].copy_from_slice(script);
-    let number = operation(subject, &pair.ceilings, &pair.leasts, &mut list[MARGIN..end]);
+    let number = operation(subject, &pair.upper, &pair.lower, &mut list[MARGIN..end]);
     (number, list)
 }
 
@@ -37,8 +37,8 @@ fn check(subject: &dyn Subject, name: &str, operation: Operation, pair: &Pair, s
         return Ok((expected.0, expected.1[MARGIN..MARGIN + script.len()].to_vec()));
     }
     let input = format!(
-        "{name}\n  ceilings {:?}\n  leasts {:?}\n  script {script:?}",
-        pair.ceilings, pair.leasts
+        "{name}\n  upper {:?}\n  lower {:?}\n  script {script:?}",
+        pair.upper, pair.lower
     );
     let lists = format!("expected {} {:?}\ncame {} {:?}", expected.0, expected.1, came.0, came.1);
     Err(format!(
@@ -63,10 +63,10 @@ fn note_both(pair: &Pair, stream: &[u32], tally: &mut Tally) {
     let (mut many, mut few) = (None, None);
     for window in (1..=pair.horizon().min(stream.len())).rev() {
         let total: u64 = stream[stream.len() - window..].iter().map(|&count| u64::from(count)).sum();
-        if total > u64::from(pair.ceilings[window - 1]) {
+        if total > u64::from(pair.upper[window - 1]) {
             many = Some(window);
         }
-        if total < u64::from(pair.leasts[window - 1]) {
+        if total < u64::from(pair.lower[window - 1]) {
             few = Some(window);
         }
     }
@@ -78,15 +78,15 @@ fn note_both(pair: &Pair, stream: &[u32], tally: &mut Tally) {
 /// The passed ticks are the longest start that conforms: by looking at every window of it. A difference here is inside the reference.
 fn check_start(pair: &Pair, counts: &[u32], verdicts: &[u32]) -> Result<(), String> {
     let passed = verdicts.iter().take_while(|&&verdict| verdict == PASSED).count();
-    let start_conforms = conforms(&pair.ceilings, &pair.leasts, &counts[..passed]);
-    let next_does = passed < counts.len() && conforms(&pair.ceilings, &pair.leasts, &counts[..passed + 1]);
+    let start_conforms = conforms(&pair.upper, &pair.lower, &counts[..passed]);
+    let next_does = passed < counts.len() && conforms(&pair.upper, &pair.lower, &counts[..passed + 1]);
     let rest_failed = verdicts.iter().skip(passed + 1).all(|&verdict| verdict == ALREADY_FAILED);
     if start_conforms && !next_does && rest_failed {
         return Ok(());
     }
     Err(format!(
         "the verdicts and conformance disagree on\n  {:?}\n  {:?}\n  {counts:?}",
-        pair.ceilings, pair.leasts
+        pair.upper, pair.lower
     ))
 }
 
@@ -101,12 +101,12 @@ fn spoil_sometimes(rng: &mut Rng, pair: &mut Pair, tally: &mut Tally) {
             spoil(rng, pair);
         }
     }
-    let number = opening(&pair.ceilings, &pair.leasts, None);
-    let over = pair.ceilings.iter().chain(&pair.leasts).any(|&figure| figure > LIMIT);
+    let number = opening(&pair.upper, &pair.lower, None);
+    let over = pair.upper.iter().chain(&pair.lower).any(|&figure| figure > LIMIT);
     if over && number != 4 {
         tally.note(OPENING, 10 * number + 4);
     }
-    if number == 1 && pair.leasts.len() != pair.ceilings.len() {
+    if number == 1 && pair.lower.len() != pair.upper.len() {
         tally.note(OPENING, 12);
     }
 }
@@ -134,14 +134,14 @@ pub fn compare_monitor(subject: &dyn Subject, rng: &mut Rng, tally: &mut Tally) 
 fn check_sent(pair: &Pair, list: &[u32]) -> Result<(), String> {
     let stream: Vec<u32> = list.iter().copied().take_while(|&count| count != NO_COUNT).collect();
     let stays = list[stream.len()..].iter().all(|&count| count == NO_COUNT);
-    let next_conforms = |count: u32| conforms(&pair.ceilings, &pair.leasts, &[stream.as_slice(), &[count]].concat());
-    let none = stream.len() == list.len() || !(0..=pair.ceilings[0].min(50)).any(next_conforms);
-    if stays && none && conforms(&pair.ceilings, &pair.leasts, &stream) {
+    let next_conforms = |count: u32| conforms(&pair.upper, &pair.lower, &[stream.as_slice(), &[count]].concat());
+    let none = stream.len() == list.len() || !(0..=pair.upper[0].min(50)).any(next_conforms);
+    if stays && none && conforms(&pair.upper, &pair.lower, &stream) {
         return Ok(());
     }
     Err(format!(
         "what is sent does not conform, or it stopped too early\n  {:?}\n  {:?}\n  {list:?}",
-        pair.ceilings, pair.leasts
+        pair.upper, pair.lower
     ))
 }
 
@@ -154,7 +154,7 @@ fn lo_window(pair: &Pair, stream: &[u32]) -> u32 {
             .sum::<i64>()
     };
     let windows = 1..=pair.horizon().min(stream.len() + 1);
-    let lo = |window: &usize| i64::from(pair.leasts[*window - 1]) - before(*window);
+    let lo = |window: &usize| i64::from(pair.lower[*window - 1]) - before(*window);
     windows.filter(|window| lo(window) > 0).max_by_key(lo).unwrap_or(0) as u32
 }
 

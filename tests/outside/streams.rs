@@ -8,21 +8,21 @@ fn sum(counts: &[u32]) -> u64 {
 }
 
 /// Whether every window inside the stream keeps its figures: all places, all lengths.
-pub fn conforms(ceilings: &[u32], leasts: &[u32], stream: &[u32]) -> bool {
-    (1..=ceilings.len()).all(|window| {
-        let kept = |counts: &[u32]| u64::from(leasts[window - 1]) <= sum(counts) && sum(counts) <= u64::from(ceilings[window - 1]);
+pub fn conforms(upper: &[u32], lower: &[u32], stream: &[u32]) -> bool {
+    (1..=upper.len()).all(|window| {
+        let kept = |counts: &[u32]| u64::from(lower[window - 1]) <= sum(counts) && sum(counts) <= u64::from(upper[window - 1]);
         stream.windows(window).all(kept)
     })
 }
 
 /// The verdict on the last tick of the stream.
-pub fn verdict(ceilings: &[u32], leasts: &[u32], stream: &[u32]) -> u32 {
-    for window in 1..=ceilings.len().min(stream.len()) {
+pub fn verdict(upper: &[u32], lower: &[u32], stream: &[u32]) -> u32 {
+    for window in 1..=upper.len().min(stream.len()) {
         let total = sum(&stream[stream.len() - window..]);
-        if total > u64::from(ceilings[window - 1]) {
+        if total > u64::from(upper[window - 1]) {
             return TOO_MANY + window as u32;
         }
-        if total < u64::from(leasts[window - 1]) {
+        if total < u64::from(lower[window - 1]) {
             return TOO_FEW + window as u32;
         }
     }
@@ -30,10 +30,10 @@ pub fn verdict(ceilings: &[u32], leasts: &[u32], stream: &[u32]) -> u32 {
 }
 
 /// The verdicts on a list of counts. After the first that is not passed nothing is judged any more.
-pub fn verdicts(ceilings: &[u32], leasts: &[u32], counts: &[u32]) -> Vec<u32> {
+pub fn verdicts(upper: &[u32], lower: &[u32], counts: &[u32]) -> Vec<u32> {
     let mut list = Vec::new();
     for end in 1..=counts.len() {
-        let last = verdict(ceilings, leasts, &counts[..end]);
+        let last = verdict(upper, lower, &counts[..end]);
         list.push(last);
         if last != PASSED {
             break;
@@ -44,13 +44,13 @@ pub fn verdicts(ceilings: &[u32], leasts: &[u32], counts: &[u32]) -> Vec<u32> {
 }
 
 /// The smallest and the largest count that could follow the stream, or nothing where none could.
-pub fn bounds(ceilings: &[u32], leasts: &[u32], stream: &[u32]) -> Option<(u32, u32)> {
+pub fn bounds(upper: &[u32], lower: &[u32], stream: &[u32]) -> Option<(u32, u32)> {
     let mut lo = 0;
     let mut hi = i64::from(u32::MAX);
-    for window in 1..=ceilings.len().min(stream.len() + 1) {
+    for window in 1..=upper.len().min(stream.len() + 1) {
         let before = sum(&stream[stream.len() + 1 - window..]) as i64;
-        lo = lo.max(i64::from(leasts[window - 1]) - before);
-        hi = hi.min(i64::from(ceilings[window - 1]) - before);
+        lo = lo.max(i64::from(lower[window - 1]) - before);
+        hi = hi.min(i64::from(upper[window - 1]) - before);
     }
     if lo <= hi {
         Some((lo as u32, hi as u32))
@@ -66,11 +66,11 @@ pub fn chosen(lo: u32, hi: u32, choice: u32) -> u32 {
 }
 
 /// What is sent for a list of choices. Where there is no count the stream stays as it was.
-pub fn sent(ceilings: &[u32], leasts: &[u32], choices: &[u32]) -> Vec<u32> {
+pub fn sent(upper: &[u32], lower: &[u32], choices: &[u32]) -> Vec<u32> {
     let mut stream = Vec::new();
     let mut list = Vec::new();
     for &choice in choices {
-        match bounds(ceilings, leasts, &stream) {
+        match bounds(upper, lower, &stream) {
             None => list.push(NO_COUNT),
             Some((lo, hi)) => {
                 stream.push(chosen(lo, hi, choice));
@@ -82,20 +82,20 @@ pub fn sent(ceilings: &[u32], leasts: &[u32], choices: &[u32]) -> Vec<u32> {
 }
 
 /// A script through a monitor, questions included.
-pub fn judge_into(ceilings: &[u32], leasts: &[u32], script: &mut [u32]) -> u32 {
-    let number = opening(ceilings, leasts, None);
+pub fn judge_into(upper: &[u32], lower: &[u32], script: &mut [u32]) -> u32 {
+    let number = opening(upper, lower, None);
     if number == 0 {
-        let list = verdicts(ceilings, leasts, script);
+        let list = verdicts(upper, lower, script);
         script.copy_from_slice(&list);
     }
     number
 }
 
 /// A script through a generator, questions included.
-pub fn generate_into(ceilings: &[u32], leasts: &[u32], script: &mut [u32]) -> u32 {
-    let number = opening(ceilings, leasts, None);
+pub fn generate_into(upper: &[u32], lower: &[u32], script: &mut [u32]) -> u32 {
+    let number = opening(upper, lower, None);
     if number == 0 {
-        let list = sent(ceilings, leasts, script);
+        let list = sent(upper, lower, script);
         script.copy_from_slice(&list);
     }
     number

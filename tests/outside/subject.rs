@@ -23,11 +23,11 @@ pub const REFUSED: u32 = 4_000_000_000;
 pub const NO_COUNT: u32 = REFUSED + 13;
 
 pub trait Subject: Sync {
-    fn close(&self, ceilings: &[u32], leasts: &[u32], upper: &mut [u32], lower: &mut [u32]) -> u64;
+    fn close(&self, upper: &[u32], lower: &[u32], closed_upper: &mut [u32], closed_lower: &mut [u32]) -> u64;
     fn read(&self, text: &[u8], upper: &mut [u32], lower: &mut [u32]) -> u64;
     fn report(&self, text: &[u8], output: &mut [u8]) -> usize;
-    fn judge(&self, ceilings: &[u32], leasts: &[u32], script: &mut [u32]) -> u32;
-    fn generate(&self, ceilings: &[u32], leasts: &[u32], script: &mut [u32]) -> u32;
+    fn judge(&self, upper: &[u32], lower: &[u32], script: &mut [u32]) -> u32;
+    fn generate(&self, upper: &[u32], lower: &[u32], script: &mut [u32]) -> u32;
 }
 
 /// The answer of a refused closing or reading.

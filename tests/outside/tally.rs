@@ -24,13 +24,13 @@ pub const OPENING: &str = "opening with two faults, both numbers";
 pub const VERDICT: &str = "verdicts (0 passed, 1 many, 2 few, 3 failed)";
 pub const MANY: &str = "too many, window";
 pub const FEW: &str = "too few, window";
-pub const FAILED: &str = "turned down (0: in 10 ticks, 1: 100, 2: 300, 3: later)";
+pub const FAILED: &str = "rejected (0: in 10 ticks, 1: 100, 2: 300, 3: later)";
 pub const BOTH: &str = "too many and too few at once, 1 in one window";
 pub const SENT: &str = "generator (0 sent, 13 no count)";
 pub const STOPPED: &str = "no count (0: in 10 ticks, 1: 100, 2: 300, 3: later)";
 pub const LO: &str = "generator, the window that settled lo (0: none)";
-pub const FUTURE: &str = "a pair has streams (0 none, 1 some)";
-pub const START: &str = "a start (0 has no future, 1 has one)";
+pub const EXTENDABLE: &str = "a pair has extendable streams (0 none, 1 some)";
+pub const START: &str = "a start (0 not extendable, 1 extendable)";
 pub const EQUAL: &str = "two closures (0 differ, 1 equal)";
 
 const SOME_WINDOWS: &[u32] = &[1, 2, 3, 4, 8, 12, 256];
@@ -59,7 +59,7 @@ const DUE: &[(&str, &[u32])] = &[
     (SENT, &[0, 13]),
     (STOPPED, &[0, 1, 2]),
     (LO, &[0, 1, 2, 3, 8, 256]),
-    (FUTURE, &[0, 1]),
+    (EXTENDABLE, &[0, 1]),
     (START, &[0, 1]),
     (EQUAL, &[0, 1]),
 ];

@@ -106,30 +106,30 @@ pub fn all_faults(text: &[u8]) -> Vec<Vec<u32>> {
     list
 }
 
-/// The pair of a text: ceilings and leasts.
+/// The pair of a text: its upper and its lower curve.
 pub fn pair(text: &[u8]) -> Result<(Vec<u32>, Vec<u32>), u32> {
     let list = records(text)?;
     let horizon = list.iter().map(|record| record.window).max().unwrap_or(0);
     let smallest = list.iter().map(|record| record.most).min().unwrap_or(0);
     let named = |window: u32| list.iter().find(|record| record.window == window);
-    let ceilings = (1..=horizon)
+    let upper = (1..=horizon)
         .map(|window| named(window).map_or(window * smallest, |record| record.most))
         .collect();
-    let leasts = (1..=horizon).map(|window| named(window).map_or(0, |record| record.least)).collect();
-    Ok((ceilings, leasts))
+    let lower = (1..=horizon).map(|window| named(window).map_or(0, |record| record.least)).collect();
+    Ok((upper, lower))
 }
 
 /// Reading as a whole: the pair into the first entries of the result lists.
 pub fn read_into(text: &[u8], upper: &mut [u32], lower: &mut [u32]) -> u64 {
     match pair(text) {
         Err(number) => refused(number),
-        Ok((ceilings, leasts)) => {
-            let horizon = ceilings.len();
+        Ok((text_upper, text_lower)) => {
+            let horizon = text_upper.len();
             if upper.len() < horizon || lower.len() < horizon {
                 return refused(11);
             }
-            upper[..horizon].copy_from_slice(&ceilings);
-            lower[..horizon].copy_from_slice(&leasts);
+            upper[..horizon].copy_from_slice(&text_upper);
+            lower[..horizon].copy_from_slice(&text_lower);
             horizon as u64
         }
     }
@@ -137,11 +137,11 @@ pub fn read_into(text: &[u8], upper: &mut [u32], lower: &mut [u32]) -> u64 {
 
 /// The closure of a text's pair, or the number of the refusal.
 fn closure(text: &[u8]) -> Result<(Vec<u32>, Vec<u32>), u32> {
-    let (ceilings, leasts) = pair(text)?;
-    let mut upper = vec![0; ceilings.len()];
-    let mut lower = vec![0; ceilings.len()];
-    match refusal_of(rounds::close_into(&ceilings, &leasts, &mut upper, &mut lower)) {
-        0 => Ok((upper, lower)),
+    let (upper, lower) = pair(text)?;
+    let mut closed_upper = vec![0; upper.len()];
+    let mut closed_lower = vec![0; upper.len()];
+    match refusal_of(rounds::close_into(&upper, &lower, &mut closed_upper, &mut closed_lower)) {
+        0 => Ok((closed_upper, closed_lower)),
         number => Err(number),
     }
 }
@@ -150,9 +150,9 @@ fn closure(text: &[u8]) -> Result<(Vec<u32>, Vec<u32>), u32> {
 pub fn report(text: &[u8]) -> (Vec<u8>, u32) {
     match closure(text) {
         Err(number) => (format!("refused {number}\r\n").into_bytes(), number),
-        Ok((upper, lower)) => {
+        Ok((closed_upper, closed_lower)) => {
             let mut written = format!("{}\r\n", String::from_utf8_lossy(HEADER));
-            for (place, (most, least)) in upper.iter().zip(&lower).enumerate() {
+            for (place, (most, least)) in closed_upper.iter().zip(&closed_lower).enumerate() {
                 written += &format!("{},{},{}\r\n", place + 1, least, most);
             }
             (written.into_bytes(), 0)

@@ -35,24 +35,15 @@ pub fn ask(upper: &[u32], lower: &[u32]) -> Asked
     if lower.len() != horizon {
         return Asked::LowerLength;
     }
-    if !within_limit(upper, lower) {
+    if !(within_limit(upper) & within_limit(lower)) {
         return Asked::FigureLimit;
     }
     Asked::Passes
 }
 
-// Whether no figure of two lists is above 16,776,960: what questions 4 and 12 ask of figures.
-pub fn within_limit(upper: &[u32], lower: &[u32]) -> bool
-    ensures { λ r. ⌜ Tells r (Bounded (now (upper .entry)) × Bounded (now (lower .entry))) ⌝ }
-{
-    if bounded(upper) {
-        return bounded(lower);
-    }
-    false
-}
-
-// The same of one list. Without an early way out the compiler can take several figures a turn.
-fn bounded(figures: &[u32]) -> bool
+// Whether no figure of a list is above 16,776,960, as questions 4 and 12 ask of both curves. Without an early way out the compiler can take
+// several figures a turn.
+pub fn within_limit(figures: &[u32]) -> bool
     ensures { λ r. ⌜ Tells r (Bounded (now (figures .entry))) ⌝ }
 {
     let mut within = true;

@@ -55,7 +55,7 @@ pub fn close(
     if closed_lower.len() < h {
         return Closing::ResultLength;
     }
-    if !bounds::within_limit(upper, lower) {
+    if !(bounds::within_limit(upper) & bounds::within_limit(lower)) {
         return Closing::FigureLimit;
     }
     run::to_end(upper, lower, &mut closed_upper[..h], &mut closed_lower[..h])

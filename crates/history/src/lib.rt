@@ -69,7 +69,7 @@ impl History {
         }
         let upper = self.upper;
         let lower = self.lower;
-        bounds::within_limit(&upper[..horizon], &lower[..horizon])
+        bounds::within_limit(&upper[..horizon]) & bounds::within_limit(&lower[..horizon])
     }
 }
 

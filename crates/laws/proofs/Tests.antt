@@ -24,6 +24,12 @@ pub tells-same : {P Q : Type 0} (b : Bool) → P ↔ Q → Tells b P → Tells b
 tells-same true e t = e .0 t
 tells-same false e t = λ q. t (e .1 q)
 
+-- Two tests together.
+pub both-told : (P Q : Type 0) (a b : Bool) → Tells a P → Tells b Q → Tells (a && b) (P × Q)
+both-told P Q true true p q = (p, q)
+both-told P Q true false p n = λ r. n (r .1)
+both-told P Q false b n q = λ r. n (r .0)
+
 -- What a test tells, from what each answer does; and so a comparison.
 told : {P : Type 0} (b : Bool) → (b ≡ true → P) → (b ≡ false → ¬ P) → Tells b P
 told true f g = f refl

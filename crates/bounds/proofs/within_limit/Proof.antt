@@ -1,18 +1,40 @@
--- `bounds::within_limit` meets its promise: where the first list is bounded, the second settles it.
+-- `bounds::within_limit` meets its promise: before a turn it is known whether all figures before i are within the limit.
 -- Assumes nothing.
-use Rattle.laws.proofs.Base.{needs}
-use Rattle.laws.proofs.Tests.{either-true, either-false, tells-same}
-use Rattle.bounds.specs.Bounds.{Bounded}
+use Rattle.laws.proofs.Base.{ℕ, _-_, _≤_, _<_, arith, needs, below-none, length, getD}
+use Rattle.laws.specs.Tests.{Tells}
+use Rattle.laws.proofs.Tests.{leb-told, all-turn}
+use Rattle.bounds.specs.Bounds.{figureLimit}
+use Rattle.bounds.proofs.Laws.{Within, within-told}
 use Rattle.bounds.proofs.within_limit.Statement.{statement}
 use Rattle.bounds.proofs.within_limit.Tie as tie
 
-returns : tie.Need-returns
-returns c =
-    let uppers = either-true _ _ _ (c .before .if1 .taken) (c .before .before .bounded .ensures) in
-    tells-same (c .bounded2 .result) ((λ lowers. (uppers, lowers)), (λ both. both .1)) (c .bounded2 .ensures)
+abbrev Inv-loop : tie.InvT-loop
+Inv-loop figures within₀ i₀ within i = (i ≤ length figures) × Tells within ((k : ℕ) → k < i → Within figures k)
 
-returns-2 : tie.Need-returns-2
-returns-2 c both = either-false _ (¬ Bounded _) _ (c .if1 .left) (c .before .bounded .ensures) (both .0)
+abbrev μ-loop : tie.MeasureT-loop
+μ-loop figures within₀ i₀ within i = length figures - i
+
+loop-again : tie.Need-loop-again Inv-loop μ-loop
+loop-again c =
+    let us = c .before .before .before .args .figures .now in
+    let head = c .before .before .loop in
+    (omega arith, all-turn (Within us) (head .i) (head .within) _ (head .inv .1) (leb-told (getD us (head .i) 0) figureLimit))
+
+returns : tie.Need-returns Inv-loop μ-loop
+returns c =
+    let head = c .before .loop in
+    within-told (c .before .before .args .figures .now) (head .i) (head .within) (omega arith) (head .inv .1)
 
 pub within-limit-spec : {M : Type 1} → statement M
-within-limit-spec = tie.close (tie.spec (λ c κs. search needs) (λ c κs. search needs) returns returns-2)
+within-limit-spec =
+    tie.close
+    (tie.spec
+    Inv-loop
+    μ-loop
+    (λ c. (search needs, below-none _))
+    (λ c. search needs)
+    (λ c. search needs)
+    (λ c. search needs)
+    (λ c. search needs)
+    loop-again
+    returns)

@@ -1,6 +1,6 @@
-//! Which starts can go on for ever, for small figures, by looking at all that can happen. A stream's past matters through its last
-//! counts only, fewer than the horizon, so there are few pasts; the ones that can go on are the greatest set of them in which each has a
-//! next one that is in the set too.
+//! Which finite streams are extendable, that is, begin an unbounded stream that conforms: for small figures, by trying all counts. What
+//! can follow a stream depends on its last counts only, fewer than the horizon, so there are few pasts; the extendable ones are the
+//! greatest set of them in which each has a next one that is in the set too.
 
 use crate::pairs::Pair;
 use crate::streams::verdict;
@@ -9,7 +9,7 @@ use crate::subject::PASSED;
 /// A past: the last counts, fewer than the horizon. It has fewer than the horizon less one only when the stream began with it.
 pub type Past = Vec<u32>;
 
-pub struct Futures {
+pub struct Extensions {
     horizon: usize,
     /// Counts from 0 to this are tried; no greater one keeps the window of one tick.
     pub top: u32,
@@ -17,7 +17,8 @@ pub struct Futures {
     pasts: Vec<Past>,
     /// For each past and each count the past that follows, where the count keeps every window that ends there.
     next: Vec<Vec<Option<usize>>>,
-    lives: Vec<bool>,
+    /// For each past whether some unbounded stream that conforms goes on after it.
+    extendable: Vec<bool>,
 }
 
 /// All lists of counts from 0 to `top` with fewer than `horizon` entries, in the order in which `place` counts them.
@@ -41,58 +42,59 @@ fn place(past: &[u32], top: u32) -> usize {
     shorter + past.iter().fold(0, |number, &count| number * base + count as usize)
 }
 
-impl Futures {
-    pub fn new(pair: &Pair) -> Futures {
-        let (horizon, top) = (pair.horizon(), pair.ceilings[0]);
+impl Extensions {
+    pub fn new(pair: &Pair) -> Extensions {
+        let (horizon, top) = (pair.horizon(), pair.upper[0]);
         let pasts = all_pasts(horizon, top);
         let next = pasts
             .iter()
             .map(|past| (0..=top).map(|count| follow(pair, past, count)).collect())
             .collect();
-        let lives = vec![true; pasts.len()];
-        let mut futures = Futures {
+        let extendable = vec![true; pasts.len()];
+        let mut extensions = Extensions {
             horizon,
             top,
             pasts,
             next,
-            lives,
+            extendable,
         };
-        while futures.drop_dead_ends() {}
-        futures
+        while extensions.drop_last_pasts() {}
+        extensions
     }
 
-    /// Takes out every past that no count leads on from; whether there was one.
-    fn drop_dead_ends(&mut self) -> bool {
+    /// Takes out every past that no other follows; whether there was one.
+    fn drop_last_pasts(&mut self) -> bool {
         let mut dropped = false;
         for past in 0..self.pasts.len() {
-            let goes_on = self.next[past].iter().flatten().any(|&follower| self.lives[follower]);
-            if self.lives[past] && !goes_on {
-                self.lives[past] = false;
+            let followed = self.next[past].iter().flatten().any(|&follower| self.extendable[follower]);
+            if self.extendable[past] && !followed {
+                self.extendable[past] = false;
                 dropped = true;
             }
         }
         dropped
     }
 
+    /// Whether some unbounded stream conforms: the empty one is extendable.
     pub fn any_stream(&self) -> bool {
-        self.lives[0]
+        self.extendable[0]
     }
 
     /// The counts with which some unbounded stream goes on after a past.
     pub fn counts_after(&self, past: &[u32]) -> Vec<u32> {
         let followers = &self.next[place(past, self.top)];
         (0..=self.top)
-            .filter(|&count| followers[count as usize].is_some_and(|follower| self.lives[follower]))
+            .filter(|&count| followers[count as usize].is_some_and(|follower| self.extendable[follower]))
             .collect()
     }
 
-    /// The past that a stream with a future leaves.
+    /// The past that an extendable stream leaves.
     pub fn past_of(&self, stream: &[u32]) -> Past {
         stream[stream.len().saturating_sub(self.horizon - 1)..].to_vec()
     }
 
     /// Whether the stream begins an unbounded one that conforms.
-    pub fn begins_one(&self, stream: &[u32]) -> bool {
+    pub fn is_extendable(&self, stream: &[u32]) -> bool {
         let kept = |end: usize| self.counts_after(&self.past_of(&stream[..end])).contains(&stream[end]);
         self.any_stream() && (0..stream.len()).all(kept)
     }
@@ -103,7 +105,7 @@ impl Futures {
         let mut left = vec![0];
         let mut list = Vec::new();
         while let Some(past) = left.pop() {
-            if !self.lives[past] || found[past] {
+            if !self.extendable[past] || found[past] {
                 continue;
             }
             found[past] = true;
@@ -117,9 +119,9 @@ impl Futures {
 /// The past after one more count, where that keeps every window that ends there.
 fn follow(pair: &Pair, past: &[u32], count: u32) -> Option<usize> {
     let stream = [past, &[count]].concat();
-    if verdict(&pair.ceilings, &pair.leasts, &stream) != PASSED {
+    if verdict(&pair.upper, &pair.lower, &stream) != PASSED {
         return None;
     }
     let kept = stream.len().min(pair.horizon() - 1);
-    Some(place(&stream[stream.len() - kept..], pair.ceilings[0]))
+    Some(place(&stream[stream.len() - kept..], pair.upper[0]))
 }
