@@ -4,7 +4,7 @@ use crate::contender::Contender;
 use crate::fastest::{close_core, generate_core, judge_core, read_core};
 use crate::plain;
 
-/// What the questions refuse is no matter of speed.
+/// What the questions refuse is not timed.
 fn taken(upper: &[u32], lower: &[u32]) -> bool {
     plain::opening(upper, lower) == 0
 }

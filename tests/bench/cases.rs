@@ -52,7 +52,7 @@ fn read(case: &Case, contender: &Contender) -> Vec<u32> {
     upper
 }
 
-/// Two windows with a word each: nine rounds, the most that there are.
+/// Two windows with a bound each: nine rounds, the most that there are.
 fn closing() -> Case {
     let (mut upper, mut lower) = (vec![LIMIT; 256], vec![0; 256]);
     upper[4] = 200_000;

@@ -1,5 +1,6 @@
 //! The fastest forms that were found: closing with the windows of one block side by side in registers and the parts outside, scripts on
-//! running sums without a way out in the middle, reading without looking back. All are inlined into the builds that use them.
+//! running sums without an exit in the middle, reading in one pass with no search for the ends of lines. All are inlined into the
+//! builds that use them.
 
 use crate::plain;
 use crate::ring::Ring;
@@ -7,7 +8,7 @@ use crate::subject::{refused, ALREADY_FAILED, HEADER, LIMIT, LONGEST_HORIZON, NO
 
 /// Windows of one block.
 const BLOCK: usize = 32;
-/// A curve has a block's room before its entry of 1 tick and after its last one, filled so that no candidate from there wins.
+/// A curve has a block's room before its entry of 1 tick and after its last one, filled so that no candidate from there is taken.
 const SIZE: usize = LONGEST_HORIZON + 2 * BLOCK;
 const FAR: i32 = 1 << 29;
 
@@ -141,7 +142,7 @@ pub fn judge_core(upper: &[u32], lower: &[u32], script: &mut [u32]) -> u32 {
 }
 
 #[inline(always)]
-fn bounds(ring: &Ring, upper: &[u32], lower: &[u32]) -> (i32, i32) {
+fn range(ring: &Ring, upper: &[u32], lower: &[u32]) -> (i32, i32) {
     let (before, latest) = ring.before();
     let (mut lo, mut hi) = (0, i32::MAX);
     for ((sum, upper), lower) in before.iter().zip(upper).zip(lower) {
@@ -156,7 +157,7 @@ fn bounds(ring: &Ring, upper: &[u32], lower: &[u32]) -> (i32, i32) {
 pub fn generate_core(upper: &[u32], lower: &[u32], script: &mut [u32]) -> u32 {
     let mut ring = Ring::new(upper.len());
     for tick in 0..script.len() {
-        let (lo, hi) = bounds(&ring, upper, lower);
+        let (lo, hi) = range(&ring, upper, lower);
         if lo > hi {
             script[tick..].fill(NO_COUNT);
             break;

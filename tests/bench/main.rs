@@ -39,7 +39,7 @@ fn best_times(case: &Case, contenders: &[Contender], repetitions: u32) -> Vec<f6
     best
 }
 
-/// A time is worth nothing where the results differ.
+/// Times are compared only where the results agree.
 fn check(case: &Case, contenders: &[Contender]) -> Result<(), String> {
     let expected = (case.run)(case, &contenders[0]);
     for contender in &contenders[1..] {

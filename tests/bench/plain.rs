@@ -15,7 +15,7 @@ pub fn opening(upper: &[u32], lower: &[u32]) -> u32 {
 }
 
 /// The new figures of one window: over the places to cut it, then over the ways to make it longer. A difference below 0 is cut off
-/// there: the figures cross in another window of the same round then.
+/// there: the window that is subtracted crosses in the same round then (tests/outside/faults.rs says why).
 fn figures(upper: &[u32], lower: &[u32], d: usize) -> (u32, u32) {
     let (mut new_upper, mut new_lower) = (upper[d - 1], lower[d - 1]);
     for a in 1..d {
@@ -94,7 +94,7 @@ impl State {
         state
     }
 
-    /// Every figure is looked at even after one that is too great, which the compiler turns into wide instructions.
+    /// Every figure is compared even after one that is too great, which the compiler turns into wide instructions.
     fn well_formed(&self) -> bool {
         let within = |list: &[u32]| !list.iter().fold(false, |over, &figure| over | (figure > LIMIT));
         (1..=LONGEST_HORIZON).contains(&self.horizon)
@@ -130,13 +130,13 @@ impl State {
             if sum < u64::from(lower) {
                 return TOO_FEW + 1 + place as u32;
             }
-            // After the last window this adds a tick that is not held, and nobody looks at the sum any more.
+            // After the last window this adds a tick that is not held, and the sum is not used any more.
             sum += u64::from(held);
         }
         PASSED
     }
 
-    fn bounds(&self) -> (i64, i64) {
+    fn range(&self) -> (i64, i64) {
         let (mut before, mut lo, mut hi) = (0, 0, i64::from(u32::MAX));
         for place in 0..self.held_ticks + 1 {
             // SAFETY: as for a verdict.
@@ -173,7 +173,7 @@ impl State {
         if !self.well_formed() {
             return (self, 12);
         }
-        let (lo, hi) = self.bounds();
+        let (lo, hi) = self.range();
         if lo > hi {
             return (self, NO_COUNT);
         }

@@ -3,7 +3,7 @@
 
 use crate::subject::LONGEST_HORIZON;
 
-/// Room to move on in before the sums have to be carried back.
+/// How many sums are added before the last ones have to be copied back to the end.
 const ROOM: usize = 2_048;
 
 pub struct Ring {
@@ -30,7 +30,7 @@ impl Ring {
         (&self.sums[self.latest..self.latest + self.held + 1], self.sums[self.latest])
     }
 
-    /// Running sums may pass what 32 bits hold; their differences do not, since what is held has passed its ceilings.
+    /// Running sums may pass what 32 bits hold; their differences do not, since what is held keeps the upper curve.
     #[inline(always)]
     pub fn hold(&mut self, count: u32) {
         let next = self.sums[self.latest].wrapping_add(count as i32);

@@ -28,18 +28,23 @@ struct Outcome {
 
 impl Outcome {
     fn shown(&self) -> String {
-        format!("{}\n  closed upper {:?}\n  closed lower {:?}", shown(self.answer), self.closed_upper, self.closed_lower)
+        format!(
+            "{}\n  closed upper {:?}\n  closed lower {:?}",
+            shown(self.answer),
+            self.closed_upper,
+            self.closed_lower
+        )
     }
 }
 
 impl Case {
     /// The result lists have the lengths given.
-    pub fn new(rng: &mut Rng, pair: Pair, upper_length: usize, lower_length: usize) -> Case {
+    pub fn new(rng: &mut Rng, pair: Pair, closed_upper_length: usize, closed_lower_length: usize) -> Case {
         Case {
             upper: pair.upper,
             lower: pair.lower,
-            closed_upper: rng.arbitrary(upper_length + 2 * MARGIN),
-            closed_lower: rng.arbitrary(lower_length + 2 * MARGIN),
+            closed_upper: rng.arbitrary(closed_upper_length + 2 * MARGIN),
+            closed_lower: rng.arbitrary(closed_lower_length + 2 * MARGIN),
         }
     }
 
@@ -50,36 +55,40 @@ impl Case {
 
     fn put_to(&self, subject: &dyn Subject) -> Outcome {
         let (mut closed_upper, mut closed_lower) = (self.closed_upper.clone(), self.closed_lower.clone());
-        let (upper_length, lower_length) = self.lengths();
+        let (closed_upper_length, closed_lower_length) = self.lengths();
         let answer = subject.close(
             &self.upper,
             &self.lower,
-            &mut closed_upper[MARGIN..MARGIN + upper_length],
-            &mut closed_lower[MARGIN..MARGIN + lower_length],
+            &mut closed_upper[MARGIN..MARGIN + closed_upper_length],
+            &mut closed_lower[MARGIN..MARGIN + closed_lower_length],
         );
-        Outcome { answer, closed_upper, closed_lower }
+        Outcome {
+            answer,
+            closed_upper,
+            closed_lower,
+        }
     }
 
     fn input(&self) -> String {
-        let (upper_length, lower_length) = self.lengths();
+        let (closed_upper_length, closed_lower_length) = self.lengths();
         format!(
             "close\n  upper {:?}\n  lower {:?}\n  closed upper before {:?}\n  closed lower before {:?}\n",
             self.upper,
             self.lower,
-            &self.closed_upper[MARGIN..MARGIN + upper_length],
-            &self.closed_lower[MARGIN..MARGIN + lower_length]
+            &self.closed_upper[MARGIN..MARGIN + closed_upper_length],
+            &self.closed_lower[MARGIN..MARGIN + closed_lower_length]
         )
     }
 
     /// Which of the questions 1 to 5 has the answer no, each asked by itself; of 5 only whether the given figures cross.
     fn faults(&self) -> Vec<u32> {
         let horizon = self.upper.len();
-        let (upper_length, lower_length) = self.lengths();
+        let (closed_upper_length, closed_lower_length) = self.lengths();
         let crosses = self.upper.iter().zip(&self.lower).any(|(upper, lower)| lower > upper);
         let asked = [
             (1, horizon < 1 || horizon > LONGEST_HORIZON),
             (2, self.lower.len() != horizon),
-            (3, upper_length < horizon || lower_length < horizon),
+            (3, closed_upper_length < horizon || closed_lower_length < horizon),
             (4, self.upper.iter().chain(&self.lower).any(|&figure| figure > LIMIT)),
             (5, crosses),
         ];
@@ -97,7 +106,7 @@ fn result_length(rng: &mut Rng, horizon: usize) -> usize {
 }
 
 /// One fault that a question 1 to 4 is about.
-fn spoil(rng: &mut Rng, pair: &mut Pair, upper_length: &mut usize, lower_length: &mut usize) {
+fn spoil(rng: &mut Rng, pair: &mut Pair, closed_upper_length: &mut usize, closed_lower_length: &mut usize) {
     match rng.below(5) {
         0 => {
             let length = rng.pick(&[0, 257, 258, 300, 512]);
@@ -111,8 +120,8 @@ fn spoil(rng: &mut Rng, pair: &mut Pair, upper_length: &mut usize, lower_length:
             let length = rng.pick(&[0, horizon.saturating_sub(1), horizon + 1, 1, 256, 257]);
             pair.lower.resize(length, 0);
         }
-        2 => *upper_length = rng.length(0, pair.upper.len()),
-        3 => *lower_length = rng.length(0, pair.upper.len()),
+        2 => *closed_upper_length = rng.length(0, pair.upper.len()),
+        3 => *closed_lower_length = rng.length(0, pair.upper.len()),
         _ => {
             let over = rng.pick(&[LIMIT + 1, LIMIT + 1, LIMIT + 2, 1 << 31, u32::MAX]);
             let list = if rng.one_in(2) { &mut pair.upper } else { &mut pair.lower };
@@ -125,13 +134,13 @@ fn spoil(rng: &mut Rng, pair: &mut Pair, upper_length: &mut usize, lower_length:
 }
 
 fn make(rng: &mut Rng, mut pair: Pair) -> Case {
-    let (mut upper_length, mut lower_length) = (result_length(rng, pair.horizon()), result_length(rng, pair.horizon()));
+    let (mut closed_upper_length, mut closed_lower_length) = (result_length(rng, pair.horizon()), result_length(rng, pair.horizon()));
     if rng.one_in(8) {
         for _ in 0..rng.between(1, 2) {
-            spoil(rng, &mut pair, &mut upper_length, &mut lower_length);
+            spoil(rng, &mut pair, &mut closed_upper_length, &mut closed_lower_length);
         }
     }
-    Case::new(rng, pair, upper_length, lower_length)
+    Case::new(rng, pair, closed_upper_length, closed_lower_length)
 }
 
 /// No pair takes more rounds: twice as many steps of a walk are made one in each; and where they arrive, each of them changes a figure by
@@ -149,7 +158,7 @@ fn rounds_bound(case: &Case, arrives: bool) -> u64 {
     widths.sum::<u64>().min(doublings)
 }
 
-/// The rounds against the two ways that know no rounds. A difference here is one inside the reference.
+/// The rounds against the two methods without rounds. A difference here is one inside the reference.
 fn check_reference(case: &Case, expected: &Outcome, paths_too: bool) -> Result<(), String> {
     let none = refusal_of(expected.answer) == 5;
     if none != paths::rates_conflict(&case.upper, &case.lower) {
@@ -185,7 +194,7 @@ fn note(case: &Case, answer: u64, tally: &mut Tally) {
     }
 }
 
-/// One case: what the subject makes of it against what the reference does.
+/// One case: what the subject answers against what the reference does.
 pub fn check(subject: &dyn Subject, case: &Case, paths_too: bool, tally: &mut Tally) -> Result<(), String> {
     let expected = case.put_to(&Reference);
     note(case, expected.answer, tally);

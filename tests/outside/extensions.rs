@@ -88,7 +88,7 @@ impl Extensions {
             .collect()
     }
 
-    /// The past that an extendable stream leaves.
+    /// The past of an extendable stream.
     pub fn past_of(&self, stream: &[u32]) -> Past {
         stream[stream.len().saturating_sub(self.horizon - 1)..].to_vec()
     }

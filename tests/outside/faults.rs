@@ -1,7 +1,16 @@
-//! The mutants: one plain implementation with one fault each. What cannot be told apart through the boundary is not among them: a tick
-//! that is turned down and held all the same is seen only where the monitor recovers too; cutting a difference off at 0 or a sum at the
-//! limit changes no answer, since another figure of the same round then crosses instead; not looking at the window of the horizon for
-//! a crossing changes none either, since a shorter window crosses in the next round.
+//! The mutants: one plain implementation with one fault each. Three faults are not among them, since no call over the boundary can show
+//! them:
+//!
+//! - A rejected tick that is held, with the mark of a failed monitor set. A failed monitor answers 'already failed' whatever it holds, and
+//!   no state crosses the boundary. The program `limits` shows the state that comes back.
+//! - A difference cut off at 0, in a round. U d and L d are the old figures, which do not cross, so none is below 0 or above the limit.
+//!   For a least it changes nothing, as no old least is below 0. For a ceiling: where U (d + t) - L t is below 0, the new ceiling of t is
+//!   at most U (d + t) - L d, or 0 where that is cut off, and so below L t: window t crosses in the same round.
+//! - A sum cut off at the limit, in a round. For a ceiling it changes nothing, as no old ceiling is above the limit. For a least: where
+//!   L a + L b is above the limit, with a + b = d, the new ceiling of a is at most U d - L b, and so below L a: window a crosses in the
+//!   same round.
+//!
+//! With or without the cut, a round in which some window crosses ends in refusal 5, which writes nothing and has no count of rounds.
 
 #[derive(Clone, Copy, PartialEq)]
 pub enum Fault {

@@ -29,7 +29,7 @@ impl Faulty {
         upper.iter().chain(lower).any(|&figure| figure > limit)
     }
 
-    /// How many windows are looked at for a crossing, the shortest first.
+    /// In how many windows a crossing is seen, the shortest first.
     fn compared_windows(&self, horizon: usize) -> usize {
         horizon.saturating_sub(usize::from(self.has(HorizonNotCrossed)))
     }
@@ -40,9 +40,9 @@ impl Faulty {
     }
 
     /// The questions of closing in their order, or in another one.
-    fn asked(&self, upper: &[u32], lower: &[u32], closed_upper: usize, closed_lower: usize) -> u32 {
+    fn asked(&self, upper: &[u32], lower: &[u32], closed_upper_length: usize, closed_lower_length: usize) -> u32 {
         let horizon = upper.len();
-        let short = closed_upper < horizon || (closed_lower < horizon && !self.has(ClosedUpperOnlyAsked));
+        let short = closed_upper_length < horizon || (closed_lower_length < horizon && !self.has(ClosedUpperOnlyAsked));
         let mut questions = [
             (1, self.too_long(horizon)),
             (2, lower.len() != horizon),
@@ -154,8 +154,8 @@ impl Faulty {
             figures = next;
             rounds += 1;
         }
-        // Nine rounds are the most that lead to a closure. Where the horizon's window alone crosses and is not seen, some shorter one
-        // crosses after more of them than are run here, so the answer is that of a crossing.
+        // No pair with a closure takes more than nine rounds. Where only the horizon's window crosses, unseen, some shorter one would
+        // cross in a later round, however many that takes: so a stop here counts as a crossing. With H = 1 there is no shorter one.
         let crosses = self.crosses(&figures, rounds) || self.has(HorizonNotCrossed);
         (figures, rounds, crosses)
     }

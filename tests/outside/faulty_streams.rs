@@ -101,7 +101,7 @@ impl Faulty {
         verdict
     }
 
-    fn bounds(&self, state: &State) -> (i64, i64) {
+    fn range(&self, state: &State) -> (i64, i64) {
         let mut lo = 0;
         let mut hi = i64::from(u32::MAX);
         let all = if self.has(EmptyTicksBeforeSending) {
@@ -121,7 +121,7 @@ impl Faulty {
     }
 
     fn generator_tick(&self, state: &mut State, choice: u32) -> u32 {
-        let (lo, hi) = self.bounds(state);
+        let (lo, hi) = self.range(state);
         if lo > hi || self.has(AlwaysNoCount) {
             if self.has(HoldsForNoCount) {
                 self.hold(state, 0);

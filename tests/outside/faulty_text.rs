@@ -211,11 +211,7 @@ impl Faulty {
         };
         let mut written = format!("window,least,most{end}");
         for (place, (most, least)) in pair.upper.iter().zip(&pair.lower).enumerate() {
-            let (first, second) = if self.has(ReportLeastLast) {
-                (most, least)
-            } else {
-                (least, most)
-            };
+            let (first, second) = if self.has(ReportLeastLast) { (most, least) } else { (least, most) };
             written += &format!("{},{first},{second}{end}", place + 1);
         }
         if self.has(ReportWithoutLastEnd) {

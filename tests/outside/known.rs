@@ -57,7 +57,7 @@ const CLOSINGS: &[Closing] = &[
     refuses(&[], &[], 1),
     refuses(&[], &[1], 1),
     refuses(&[1], &[], 2),
-    // Two windows whose rates conflict, though they do not fit round in a window of the horizon.
+    // Two windows whose rates conflict, though the cycle that they make does not fit in a window of the horizon.
     refuses(LOOSE, &[0, 0, 0, 0, 0, 5], 5),
     closes(LOOSE, &[0, 0, 0, 0, 0, 4], 2, &[4, 4, 4, 4, 4, 8], &[0, 0, 0, 0, 0, 4]),
 ];
@@ -105,7 +105,7 @@ fn check_no_count(subject: &dyn Subject) -> Result<(), String> {
 }
 
 /// On a closed pair, after 2, 1 the counts 0 to 2 can follow, after 2, 1, 0, 2 the counts 0 and 1: the next choice of 2 shows it.
-fn check_bounds(subject: &dyn Subject) -> Result<(), String> {
+fn check_range(subject: &dyn Subject) -> Result<(), String> {
     let (upper, lower) = ([2, 3, 5, 5], [0, 0, 1, 3]);
     for (choice, count) in [(0, 0), (1, 1), (2, 2), (3, 0), (u32::MAX, 0)] {
         let mut choices = [2, 1, choice];
@@ -200,7 +200,7 @@ pub fn compare(subject: &dyn Subject, rng: &mut Rng, tally: &mut Tally) -> Resul
             check_text(implementor, text, expected)?;
         }
         check_no_count(implementor)?;
-        check_bounds(implementor)?;
+        check_range(implementor)?;
         check_long(implementor, rng, tally)?;
     }
     Ok(())

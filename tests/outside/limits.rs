@@ -3,7 +3,7 @@
 
 use crate::pairs;
 use crate::reference::Reference;
-use crate::streams::{bounds, chosen, verdict};
+use crate::streams::{chosen, range, verdict};
 use crate::subject::{Subject, LIMIT, LONGEST_HORIZON, PASSED, TOO_FEW, TOO_MANY};
 
 const CASES: u64 = 400;
@@ -166,7 +166,7 @@ impl State {
         if !self.is_legal() {
             return format!("12 0 12 0 {}", self.whole());
         }
-        match bounds(self.upper_curve(), self.lower_curve(), self.stream()) {
+        match range(self.upper_curve(), self.lower_curve(), self.stream()) {
             None => format!("13 0 13 0 {}", self.whole()),
             Some((lo, hi)) => format!("{lo} {hi} 0 {} {}", chosen(lo, hi, choice), self.with(chosen(lo, hi, choice))),
         }

@@ -8,11 +8,11 @@
 
 mod closings;
 mod comparisons;
+mod extensions;
 mod faults;
 mod faulty_closing;
 mod faulty_streams;
 mod faulty_text;
-mod extensions;
 mod known;
 mod limits;
 mod mutants;

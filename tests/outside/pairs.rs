@@ -18,7 +18,7 @@ impl Pair {
         }
     }
 
-    /// No bound that says anything.
+    /// The loosest figures that there are.
     pub fn loose(horizon: usize) -> Pair {
         Pair::filled(horizon, LIMIT, 0)
     }
@@ -67,7 +67,7 @@ fn small(rng: &mut Rng, horizon: usize) -> Pair {
     pair
 }
 
-/// Figures about a common rate, a little looser on either side: there is a closure mostly, and many figures have a say in it.
+/// Figures about a common rate, a little looser on either side: there is a closure mostly, and many figures count for it.
 fn about_a_rate(rng: &mut Rng, horizon: usize) -> Pair {
     let ticks = u64::from(rng.between(1, 16));
     let events = u64::from(rng.below(40)) * rng.pick(&[1, 1, 1, 1_000, 20_000]);
@@ -115,8 +115,8 @@ fn from_triples(rng: &mut Rng, horizon: usize) -> Pair {
     pair
 }
 
-/// Two windows with a word each and every other figure out of the way: the most rounds that there are. The least is what the rate of
-/// the ceiling allows, or one on either side of that.
+/// Two windows with a bound each and every other figure as loose as it can be: the most rounds that there are. The least is what the
+/// rate of the ceiling allows, or one on either side of that.
 pub fn two_windows(rng: &mut Rng, horizon: usize) -> Pair {
     let mut pair = Pair::loose(horizon);
     let few = rng.length(1, horizon);
@@ -178,7 +178,7 @@ fn nearly_closed(rng: &mut Rng, horizon: usize) -> Pair {
     pair
 }
 
-/// A closed pair with many figures made looser: closing has to find them again where the others still say them.
+/// A closed pair with many figures made looser: closing has to find them again where they follow from the others.
 fn loosened(rng: &mut Rng, horizon: usize) -> Pair {
     let base = if rng.one_in(3) {
         increasing(rng, horizon)

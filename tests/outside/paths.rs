@@ -1,7 +1,7 @@
 //! Closing without rounds, twice: by shortest paths, and (whether there is a closure only) by comparing rates.
 //!
-//! Let x(n) be the sum of the counts before tick n. A ceiling says x(p + d) - x(p) <= U(d), an edge from p to p + d of cost U(d). A
-//! least says x(p) - x(p + d) <= -L(d), an edge back of cost -L(d). The bound that all of them together put on x(q) - x(p) is the
+//! Let x(n) be the sum of the counts before tick n. A ceiling means x(p + d) - x(p) <= U(d), an edge from p to p + d of cost U(d).
+//! A least means x(p) - x(p + d) <= -L(d), an edge back of cost -L(d). The bound that all of them together put on x(q) - x(p) is the
 //! cost of the cheapest walk from p to q on the whole line of ticks.
 //!
 //! The cost of a step does not depend on where it is taken, so a walk is a collection of steps in any order, and its end is their sum.
@@ -16,18 +16,18 @@
 //! inside. While there are steps of both ways left, one fits: up a past the end 2H and down b before 0 would need a + b > 2H. Once only
 //! one way is left, the places go straight to the end, which is at most H from the middle. On the places 0 to H alone the walk may
 //! not fit: at H = 6 with a ceiling of 4 for 5 ticks, a least of 5 for 6 ticks and no other bound that matters, six windows of 5 and
-//! five of 6 go round in a circle of cost 24 - 25, but after 1, 6, 0, 5 no step fits in 0 to 6.
+//! five of 6 make a cycle of cost 24 - 25, but after 1, 6, 0, 5 no step fits in 0 to 6.
 
-/// More than any walk without a circle costs.
+/// More than any walk without a cycle costs.
 const FAR: i64 = i64::MAX / 4;
 
-/// The cheapest walks from the middle place, or nothing where there is a negative circle.
+/// The cheapest walks from the middle place, or nothing where there is a negative cycle.
 fn distances(upper: &[u32], lower: &[u32]) -> Option<Vec<i64>> {
     let horizon = upper.len();
     let places = 2 * horizon + 1;
     let mut distance = vec![FAR; places];
     distance[horizon] = 0;
-    // A cheapest walk without a circle has fewer steps than there are places; each pass settles one more step of it at least.
+    // A cheapest walk without a cycle has fewer steps than there are places; each pass settles one more step of it at least.
     for _ in 0..places {
         if !relax(upper, lower, &mut distance) {
             return Some(distance);
@@ -57,7 +57,7 @@ fn relax(upper: &[u32], lower: &[u32], distance: &mut [i64]) -> bool {
     changed
 }
 
-/// The closure's ceilings and leasts, or nothing where there is none.
+/// The closure's upper and lower curve, or nothing where there is none.
 pub fn close(upper: &[u32], lower: &[u32]) -> Option<(Vec<u32>, Vec<u32>)> {
     let horizon = upper.len();
     let distance = distances(upper, lower)?;

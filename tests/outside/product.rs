@@ -1,4 +1,4 @@
-//! The product, called over its C boundary. An empty slice has a pointer that is not null, as the boundary asks.
+//! The product, called over its C boundary. An empty slice has a pointer that is not null, as the boundary requires.
 
 use crate::subject::Subject;
 

@@ -99,7 +99,7 @@ fn extremes(extensions: &Extensions, start: &mut Vec<u32>, ticks: usize) -> (u32
     found
 }
 
-/// Each figure is met. A stream without its first ticks conforms too, so a window anywhere can be looked for at the start.
+/// Each figure is met. A stream without its first ticks conforms too, so a window anywhere can be tried at the start.
 fn check_met(pair: &Pair, closed: &Pair, extensions: &Extensions) -> Result<(), String> {
     for window in 1..=pair.horizon() {
         let (lower, upper) = (closed.lower[window - 1], closed.upper[window - 1]);

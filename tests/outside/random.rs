@@ -1,4 +1,4 @@
-//! Numbers that look random and are the same in every run with the same seed (splitmix64).
+//! Pseudo-random numbers, the same in every run with the same seed (splitmix64).
 
 pub struct Rng {
     state: u64,
@@ -27,7 +27,7 @@ impl Rng {
         (self.number() >> 32) as u32
     }
 
-    /// From 0 to `end` - 1. The slight bias towards small numbers does no harm here.
+    /// From 0 to `end` - 1. The slight bias towards small numbers does not matter here.
     pub fn below(&mut self, end: u32) -> u32 {
         self.any() % end
     }

@@ -39,7 +39,7 @@ impl Curves {
         self.upper.len() - 1
     }
 
-    pub fn crosses(&self) -> bool {
+    fn crosses(&self) -> bool {
         (1..=self.horizon()).any(|d| self.lower[d] > self.upper[d])
     }
 
@@ -89,7 +89,7 @@ pub fn close(upper: &[u32], lower: &[u32]) -> Option<Stop> {
 
 /// Questions 1, 2 and 4, as an opening asks them; closing, with the lengths of its result lists, asks 3 before 4. 0 where all are
 /// answered well.
-pub fn opening(upper: &[u32], lower: &[u32], results: Option<(usize, usize)>) -> u32 {
+pub fn opening(upper: &[u32], lower: &[u32], closed_lengths: Option<(usize, usize)>) -> u32 {
     let horizon = upper.len();
     if horizon < 1 || horizon > LONGEST_HORIZON {
         return 1;
@@ -97,7 +97,7 @@ pub fn opening(upper: &[u32], lower: &[u32], results: Option<(usize, usize)>) ->
     if lower.len() != horizon {
         return 2;
     }
-    if results.is_some_and(|(closed_upper, closed_lower)| closed_upper < horizon || closed_lower < horizon) {
+    if closed_lengths.is_some_and(|lengths| lengths.0 < horizon || lengths.1 < horizon) {
         return 3;
     }
     if upper.iter().chain(lower).any(|&figure| figure > LIMIT) {

@@ -94,18 +94,18 @@ fn between_crossed(rng: &mut Rng) -> (Pair, Vec<u32>) {
     (pair, counts)
 }
 
-/// Figures for one window only, a long one often, and counts that come round with it, so that every sum of that window is the same;
-/// then one count that is off.
+/// Figures for one window only, a long one often, and counts that repeat after its length, so that every sum of that window is the
+/// same; then one count that is off.
 fn one_window(rng: &mut Rng) -> (Pair, Vec<u32>) {
     let horizon = if rng.one_in(8) { LONGEST_HORIZON } else { rng.length(1, 40) };
     let window = if rng.one_in(3) { rng.length(1, horizon) } else { horizon };
-    let circle: Vec<u32> = (0..window).map(|_| rng.below(5)).collect();
-    let total: u32 = circle.iter().sum();
+    let period: Vec<u32> = (0..window).map(|_| rng.below(5)).collect();
+    let total: u32 = period.iter().sum();
     let mut pair = Pair::loose(horizon);
     pair.upper[window - 1] = total + rng.below(2);
     pair.lower[window - 1] = total.saturating_sub(rng.below(2));
     let length = horizon + rng.length(0, 60);
-    let mut counts: Vec<u32> = circle.iter().copied().cycle().take(length).collect();
+    let mut counts: Vec<u32> = period.iter().copied().cycle().take(length).collect();
     let place = rng.length(0, length - 1);
     counts[place] = off(rng, counts[place]);
     (pair, counts)

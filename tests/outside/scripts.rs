@@ -36,10 +36,7 @@ fn check(subject: &dyn Subject, name: &str, operation: Operation, pair: &Pair, s
     if came == expected {
         return Ok((expected.0, expected.1[MARGIN..MARGIN + script.len()].to_vec()));
     }
-    let input = format!(
-        "{name}\n  upper {:?}\n  lower {:?}\n  script {script:?}",
-        pair.upper, pair.lower
-    );
+    let input = format!("{name}\n  upper {:?}\n  lower {:?}\n  script {script:?}", pair.upper, pair.lower);
     let lists = format!("expected {} {:?}\ncame {} {:?}", expected.0, expected.1, came.0, came.1);
     Err(format!(
         "{input}\n{lists}\n(scripts are shown with the {MARGIN} entries before and after them)"
@@ -58,7 +55,7 @@ fn note_verdicts(list: &[u32], tally: &mut Tally) {
     }
 }
 
-/// Whether the tick turned down was outside both ways, so that the order of looking matters: in its window, or in different ones.
+/// Whether the rejected tick was outside both ways, so that the order of comparing matters: in its window, or in different ones.
 fn note_both(pair: &Pair, stream: &[u32], tally: &mut Tally) {
     let (mut many, mut few) = (None, None);
     for window in (1..=pair.horizon().min(stream.len())).rev() {
@@ -75,7 +72,7 @@ fn note_both(pair: &Pair, stream: &[u32], tally: &mut Tally) {
     }
 }
 
-/// The passed ticks are the longest start that conforms: by looking at every window of it. A difference here is inside the reference.
+/// The passed ticks are the longest start that conforms: by the sum of every window of it. A difference here is inside the reference.
 fn check_start(pair: &Pair, counts: &[u32], verdicts: &[u32]) -> Result<(), String> {
     let passed = verdicts.iter().take_while(|&&verdict| verdict == PASSED).count();
     let start_conforms = conforms(&pair.upper, &pair.lower, &counts[..passed]);
@@ -130,7 +127,7 @@ pub fn compare_monitor(subject: &dyn Subject, rng: &mut Rng, tally: &mut Tally) 
     Ok(())
 }
 
-/// What is sent keeps the pair, by looking at every window; and where no count is sent, no small one would keep it.
+/// What is sent keeps the pair, by the sum of every window; and where no count is sent, no small one would keep it.
 fn check_sent(pair: &Pair, list: &[u32]) -> Result<(), String> {
     let stream: Vec<u32> = list.iter().copied().take_while(|&count| count != NO_COUNT).collect();
     let stays = list[stream.len()..].iter().all(|&count| count == NO_COUNT);

@@ -43,8 +43,8 @@ pub fn verdicts(upper: &[u32], lower: &[u32], counts: &[u32]) -> Vec<u32> {
     list
 }
 
-/// The smallest and the largest count that could follow the stream, or nothing where none could.
-pub fn bounds(upper: &[u32], lower: &[u32], stream: &[u32]) -> Option<(u32, u32)> {
+/// The range: the smallest and the largest count that could follow the stream, or nothing where none could.
+pub fn range(upper: &[u32], lower: &[u32], stream: &[u32]) -> Option<(u32, u32)> {
     let mut lo = 0;
     let mut hi = i64::from(u32::MAX);
     for window in 1..=upper.len().min(stream.len() + 1) {
@@ -70,7 +70,7 @@ pub fn sent(upper: &[u32], lower: &[u32], choices: &[u32]) -> Vec<u32> {
     let mut stream = Vec::new();
     let mut list = Vec::new();
     for &choice in choices {
-        match bounds(upper, lower, &stream) {
+        match range(upper, lower, &stream) {
             None => list.push(NO_COUNT),
             Some((lo, hi)) => {
                 stream.push(chosen(lo, hi, choice));
