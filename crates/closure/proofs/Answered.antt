@@ -26,7 +26,8 @@ module _ (p found : Pair) where
   pub no-3 : question1 p .asked → question2 p .asked → ¬ question3 p found .asked → refusedClosing 3 found ≡ closing p found
   no-3 y₁ y₂ n = sym (refused-is p found 3 (inr (y₁, inr (y₂, inl (refl, n)))))
 
-  pub no-4 : question1 p .asked → question2 p .asked → question3 p found .asked → ¬ question4 p .asked → refusedClosing 4 found ≡ closing p found
+  pub no-4 : question1 p .asked → question2 p .asked → question3 p found .asked → ¬ question4 p .asked
+      → refusedClosing 4 found ≡ closing p found
   no-4 y₁ y₂ y₃ n = sym (refused-is p found 4 (inr (y₁, inr (y₂, inr (y₃, inl (refl, n))))))
 
   -- The first entries of the result lists.

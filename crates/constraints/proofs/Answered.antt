@@ -9,8 +9,8 @@ use Rattle.csv.specs.Text.{Bytes, records}
 use Rattle.csv.proofs.Splitting.{records-first, record-short}
 use Rattle.csv.specs.Records.{constraintOf, messageLimit}
 use Rattle.constraints.specs.Constraints.{largestWindow}
-use Rattle.constraints.specs.Reading.{later, constraints, horizonOf, question6, question10, question11, recordQuestions, readingQuestions}
-use Rattle.constraints.specs.Reading.{refusedReading, pairGiven, reading}
+use Rattle.constraints.specs.Reading.{later, constraints, horizonOf, question6, question10, question11, recordQuestions}
+use Rattle.constraints.specs.Reading.{readingQuestions, refusedReading, pairGiven, reading}
 use Rattle.constraints.specs.Answers.{readingAnswer}
 use Rattle.constraints.specs.Steps.{TableHolds, filledFrom, ScannedAs, Scanned, PairDelivered}
 use Rattle.constraints.specs.declared.Reading.{Reading}

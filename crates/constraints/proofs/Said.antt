@@ -8,7 +8,8 @@ use Rattle.curves.specs.Questions.{Question, AllYes, FirstNo}
 use Rattle.curves.proofs.Asked.{said-no, said-yes, yes-parts, Positive, no-iff, yes-iff}
 use Rattle.csv.specs.Text.{Bytes}
 use Rattle.csv.specs.Records.{Constraint, constraintOf}
-use Rattle.constraints.specs.Reading.{later, horizonOf, recordQuestions, question10, question11, readingQuestions, refusedReading, pairGiven, reading}
+use Rattle.constraints.specs.Reading.{later, horizonOf, recordQuestions, question10, question11, readingQuestions}
+use Rattle.constraints.specs.Reading.{refusedReading, pairGiven, reading}
 use Rattle.constraints.specs.Theorems.{ReadingRefused, PairIffAllYes, GivesPair, GivenIsTextPair}
 
 module _ (t : Bytes) (found : Pair) where

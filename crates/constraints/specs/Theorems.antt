@@ -22,7 +22,8 @@ abbrev pub GivesPair : Bytes → Pair → Type 0
 GivesPair t found = reading t found .number ≡ 0
 
 abbrev pub ReadingRefused : Type 0
-ReadingRefused = (t : Bytes) (found : Pair) (n : ℕ) → ((1 ≤ n) × (reading t found ≡ refusedReading n found)) ↔ FirstNo (readingQuestions t found) n
+ReadingRefused =
+    (t : Bytes) (found : Pair) (n : ℕ) → ((1 ≤ n) × (reading t found ≡ refusedReading n found)) ↔ FirstNo (readingQuestions t found) n
 
 abbrev pub PairIffAllYes : Type 0
 PairIffAllYes = (t : Bytes) (found : Pair) → GivesPair t found ↔ AllYes (readingQuestions t found)

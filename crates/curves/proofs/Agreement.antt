@@ -30,7 +30,7 @@ crossed-given c = (
 )
   where
     above : (d : ℕ) → 1 ≤ d → d ≤ horizon c
-        → (figure (whole .of 0) (figuresOf whole c .upper) d <ℤ figure (whole .of 0) (figuresOf whole c .lower) d) ↔ (upperAt c d < lowerAt c d)
+        → (figure (pos 0) (figuresOf whole c .upper) d <ℤ figure (pos 0) (figuresOf whole c .lower) d) ↔ (upperAt c d < lowerAt c d)
     above d u v =
         rw (given-upper whole c d u v, given-lower whole c d u v)
         ((λ l. omega (arith, lt-parts _ _ l)), (λ l. parts-lt (pos (upperAt c d)) (pos (lowerAt c d)) (omega arith)))

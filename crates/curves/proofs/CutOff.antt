@@ -56,7 +56,9 @@ module _ (c : Pair) where
   negative-crosses d t u p q n =
       let w : 1 ≤ d + t = omega arith in
       let q′ : d + t ≤ horizon exact = rw (given-horizon whole c) q in
-      let low = new-old whole AtMost (whole .smaller) smaller-best (horizon exact) (figure (whole .of 0) (exact .upper)) (figure (whole .of 0) (exact .lower)) (d + t) in (
+      let uppers = figure (pos 0) (exact .upper) in
+      let lowers = figure (pos 0) (exact .lower) in
+      let low = new-old whole AtMost (whole .smaller) smaller-best (horizon exact) uppers lowers (d + t) in (
         record {
           window = d + t;
           positive = w;

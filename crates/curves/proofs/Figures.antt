@@ -66,7 +66,8 @@ module _ {N : Type 0} (z : N) where
 
 -- Curves of one horizon, of any two kinds of numbers: if each least above its ceiling in the one is so in the other, they cross together.
 pub crossed-moved : {A B : Arithmetic} (c : Curves (A .Number)) (e : Curves (B .Number)) → horizon c ≡ horizon e
-    → ((d : ℕ) → 1 ≤ d → d ≤ horizon c → A .Below (figure (A .of 0) (c .upper) d) (figure (A .of 0) (c .lower) d) → B .Below (figure (B .of 0) (e .upper) d) (figure (B .of 0) (e .lower) d))
+    → ((d : ℕ) → 1 ≤ d → d ≤ horizon c → A .Below (figure (A .of 0) (c .upper) d) (figure (A .of 0) (c .lower) d)
+    → B .Below (figure (B .of 0) (e .upper) d) (figure (B .of 0) (e .lower) d))
     → Crossed A c → Crossed B e
 crossed-moved c e h f x =
     let d : ℕ = x .window in

@@ -44,9 +44,11 @@ round-within c d x y u v old plus minus =
 -- The figures of e keep to what those of c imply.
 pub record Tightened (c e : Pair) : Type 0 where
   -- Sub-additive and super-additive.
-  pub plus : (a b : ℕ) → a + b ≤ horizon c → (upperAt e (a + b) ≤ upperAt c a + upperAt c b) × (lowerAt c a + lowerAt c b ≤ lowerAt e (a + b))
+  pub plus : (a b : ℕ) → a + b ≤ horizon c
+      → (upperAt e (a + b) ≤ upperAt c a + upperAt c b) × (lowerAt c a + lowerAt c b ≤ lowerAt e (a + b))
   -- No figure can be reached only by a window that cannot go on. With a = 0: no least of c above its ceiling.
-  pub minus : (a b : ℕ) → a + b ≤ horizon c → (upperAt e a + lowerAt c b ≤ upperAt c (a + b)) × (lowerAt c (a + b) ≤ lowerAt e a + upperAt c b)
+  pub minus : (a b : ℕ) → a + b ≤ horizon c
+      → (upperAt e a + lowerAt c b ≤ upperAt c (a + b)) × (lowerAt c (a + b) ≤ lowerAt e a + upperAt c b)
 
 module _ (c : Pair) where
   pub round-plus : (a b : ℕ) → a + b ≤ horizon c

@@ -5,8 +5,8 @@ use mathlib.Core.List.{List}
 use lib.ListN.{length}
 use Rattle.laws.specs.Writing.{over}
 use Rattle.curves.specs.Pairs.{Pair}
-use Rattle.closure.specs.Closing as closure
-use Rattle.constraints.specs.Reading as constraints
+use Rattle.closure.specs.Closing.{ClosingAnswer}
+use Rattle.constraints.specs.Reading.{ReadingAnswer}
 
 -- ---- closing and reading
 -- A refusal's number in the upper 32 bits, a value in the lower. Values are below 4,294,967,296, and 0 on a refusal.
@@ -20,10 +20,10 @@ pub record Returned : Type 0 where
 abbrev pub returned : ℕ → Pair → Returned
 returned r left = record { answer = r; results = left }
 
-abbrev pub closingReturned : closure.ClosingAnswer → Returned
+abbrev pub closingReturned : ClosingAnswer → Returned
 closingReturned a = returned (inOne (a .number) (a .rounds)) (a .results)
 
-abbrev pub readingReturned : constraints.ReadingAnswer → Returned
+abbrev pub readingReturned : ReadingAnswer → Returned
 readingReturned a = returned (inOne (a .number) (a .horizon)) (a .results)
 
 -- ---- the report

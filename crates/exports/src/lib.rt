@@ -25,7 +25,8 @@ pub extern "C" fn calgedze_close(
     closed_lower: &mut [u32],
 ) -> u64
     ensures { λ r. ⌜ returned r (pairOf (now («closed_upper» .exit)) (now («closed_lower» .exit)))
-        ≡ closingReturned (closing (pairOf (now (upper .entry)) (now (lower .entry))) (pairOf (now («closed_upper» .entry)) (now («closed_lower» .entry)))) ⌝ }
+        ≡ closingReturned (closing (pairOf (now (upper .entry)) (now (lower .entry)))
+        (pairOf (now («closed_upper» .entry)) (now («closed_lower» .entry)))) ⌝ }
 {
     closing_answer(closure::close(upper, lower, closed_upper, closed_lower))
 }

@@ -18,8 +18,8 @@ use Rattle.generator.specs.Generating.{ranging, sending}
 use Rattle.generator.specs.Calls.{viewAfter, sendings, ticked, ranged}
 use Rattle.generator.proofs.Said.{ends, ranging-range, ranging-none, ranging-from, count-limited, chosen-within, sent-from}
 use Rattle.generator.proofs.Said.{generator-next}
-use Rattle.guarantees.specs.Exact.{PassesCount, SmallestAndLargest, SendsIffPasses, NoCountIffNonePasses, RangeShowsExtremes, SendsConforming}
-use Rattle.guarantees.specs.Exact.{EqualGeneratorsAgree, EqualGeneratorsRange, CallsAreSendings}
+use Rattle.guarantees.specs.Exact.{PassesCount, SmallestAndLargest, SendsIffPasses, NoCountIffNonePasses, RangeShowsExtremes}
+use Rattle.guarantees.specs.Exact.{SendsConforming, EqualGeneratorsAgree, EqualGeneratorsRange, CallsAreSendings}
 use Rattle.guarantees.proofs.Total.{ranging-refused, sending-refused}
 use Rattle.guarantees.proofs.Held.{heldOf, held-fresh, held-added, held-legal, opened-positive}
 use Rattle.guarantees.proofs.Monitoring.{answers-right}

@@ -71,7 +71,12 @@ module _ (p : Pair) where
   unfolding fold table line row records
   text-records zero s = refl
   text-records (suc n) s =
-      rw (append-assoc _ (line (suc n) _ _) s, text-records n _, records-join (rowOf (suc n)) s (row-no-cr _ _ _), append-assoc (table rowOf n))
+      rw (
+        append-assoc _ (line (suc n) _ _) s,
+        text-records n _,
+        records-join (rowOf (suc n)) s (row-no-cr _ _ _),
+        append-assoc (table rowOf n),
+      )
 
   text-is : records (textOf p) ≡ header ∷ table rowOf (horizon p)
   unfolding textOf records
@@ -132,7 +137,8 @@ module _ (p : Pair) (ok : AllYes (pairQuestions p))
             ∙ table-self (lowerAt p) (p .lower) 0 (λ k _. refl)) i;
       })
 
-  reads : (found : Pair) → horizon p ≤ length (found .upper) → horizon p ≤ length (found .lower) → AllYes (readingQuestions (textOf p) found)
+  reads : (found : Pair) → horizon p ≤ length (found .upper) → horizon p ≤ length (found .lower)
+      → AllYes (readingQuestions (textOf p) found)
   reads found u l = (
     (omega (arith, text-fits p ok), ap (λ (rs : List Bytes). getD rs 0 []) (text-is p)),
     yes-append (recordQuestions [] (later (textOf p))) (question10 (textOf p) ∷ question11 (textOf p) found ∷ [])

@@ -4,8 +4,8 @@ use Rattle.curves.specs.Pairs.{Pair, horizon, slack}
 use Rattle.closure.specs.Closing.{closing}
 use Rattle.closure.specs.Theorems.{GivesClosure}
 
--- Document 01's bound: given a closure, the sum over all windows of ceiling minus least in the pair as given. No ceiling of it is then below
--- its least, so that no difference is cut off at 0.
+-- Document 01's bound: given a closure, the sum over all windows of ceiling minus least in the pair as given. No least of it is then above
+-- its ceiling, so that no difference is cut off at 0.
 abbrev pub CountWithinSlack : Type 0
 CountWithinSlack = (p found : Pair) → GivesClosure p found → closing p found .rounds ≤ slack p
 

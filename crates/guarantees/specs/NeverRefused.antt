@@ -20,7 +20,8 @@ use Rattle.guarantees.specs.Exact.{AllPass}
 -- Opening a generator on a closure is not refused.
 abbrev pub OpensOnClosure : Type 0
 OpensOnClosure =
-    (p found : Pair) → GivesClosure p found → (o : OpenedGenerator) → GeneratorOpened (closureOf p found) o → openingReply (o .opening) ≡ result tt
+    (p found : Pair) → GivesClosure p found → (o : OpenedGenerator) → GeneratorOpened (closureOf p found) o
+    → openingReply (o .opening) ≡ result tt
 
 abbrev pub NotRefused : Call → Type 0
 NotRefused (ticked choice r) = (x : ℕ) × (sendingReply (r .sending) ≡ result x)

@@ -77,7 +77,8 @@ module _ (h : History) (A : Arrays h) (L : Legal (viewOf h)) where
   held-newest x =
       let many : length places ≡ horizon (viewOf h .pair) - 1 = omega (arith, places-length, horizon-seen h) in
       let same : take (h .held) places ≡ entries (h .held) (h .ticks) =
-      take-take (h .held) (h .horizon - 1) (h .ticks) (omega (arith, legal-room h L .fewer)) ∙ sym (entries-take (h .held) (h .ticks) ticks-room) in
+      take-take (h .held) (h .horizon - 1) (h .ticks) (omega (arith, legal-room h L .fewer))
+      ∙ sym (entries-take (h .held) (h .ticks) ticks-room) in
       λ i. newest (many i) (then (same i) x)
 
   pub added-is : (x : ℕ) (left : List ℕ) (n : ℕ) → Pushed places (h .held) x left n
@@ -98,7 +99,8 @@ module _ (h : History) (A : Arrays h) (L : Legal (viewOf h)) where
 
       front : entries n (left ++ drop (h .horizon - 1) (h .ticks)) ≡ kept
       front =
-          ap (λ ys. entries n (ys ++ drop (h .horizon - 1) (h .ticks))) (p .entries ∙ ap (λ ys. ys ++ drop (length kept) places) (take-all (length places) kept few))
+          ap (λ ys. entries n (ys ++ drop (h .horizon - 1) (h .ticks)))
+          (p .entries ∙ ap (λ ys. ys ++ drop (length kept) places) (take-all (length places) kept few))
           ∙ ap (entries n) (append-assoc kept _ _)
           ∙ entries-padded kept _ n (sym (p .number))
 

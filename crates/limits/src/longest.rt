@@ -1,4 +1,5 @@
-// Pairs of many rounds: nine to a closure, which are the most that there can be, and eight to a least above its ceiling, which are not told.
+// Pairs of many rounds: nine to a closure, which are the most that there can be, and eight to a least above its ceiling, which no answer
+// tells.
 use crate::numbers;
 use libc::STDOUT_FILENO;
 ghost use mathlib.Core.Path.{_≡_};

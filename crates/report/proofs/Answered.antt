@@ -57,7 +57,8 @@ module _ (r : Rendered) (o : Output) (shown : (o .length ≡ r .length) × (o .b
   text-shown t e =
       λ i. record { length = (shown .0 ∙ ap (λ a. a .length) e) i; bytes = (shown .1 ∙ ap (λ a. a .bytes) e) i }
 
-  pub pair-shown : (p : Pair) → renderingAnswer r ≡ rendering p → renderingNumber (r .answer) ≡ 0 → o ≡ reported (afterRendering (rendering p))
+  pub pair-shown : (p : Pair) → renderingAnswer r ≡ rendering p → renderingNumber (r .answer) ≡ 0
+      → o ≡ reported (afterRendering (rendering p))
   pair-shown p e z =
       let ok = written-iff-all-yes p .0 (ap (λ a. a .number) (sym e) ∙ z) in
       text-shown (textOf p) (e ∙ written-is p ok) ∙ ap reported (sym (rendered-is p ok))

@@ -10,22 +10,21 @@ use Rattle.curves.specs.Pairs.{Pair, horizon, upperAt, lowerAt}
 use Rattle.curves.specs.Questions.{AllYes, FirstNo, ask}
 use Rattle.curves.proofs.Asked.{no-parts}
 use Rattle.bounds.specs.Bounds.{maxHorizon, pairQuestions}
-use Rattle.closure.specs.Closing as closure
-use Rattle.closure.specs.Theorems as closing
-use Rattle.closure.proofs.Given as given
-use Rattle.closure.proofs.Promised as promised
+use Rattle.closure.specs.Closing.{refusedClosing, closing}
+use Rattle.closure.specs.Theorems.{PassesFour, GivesClosure, closureOf}
+use Rattle.closure.proofs.Given.{refused-iff-no-stream, else-closed}
+use Rattle.closure.proofs.Promised.{closure-passes}
 use Rattle.csv.specs.Text.{Bytes, crlf, header}
 use Rattle.csv.specs.Records.{Constraint, constraintOf}
 use Rattle.constraints.specs.Constraints.{Satisfies}
 use Rattle.constraints.proofs.Named.{in-range, largest-bound}
-use Rattle.constraints.specs.Reading as constraints
+use Rattle.constraints.specs.Reading.{later, constraints, horizonOf, recordQuestions, question11, readingQuestions, reading}
 use Rattle.constraints.specs.Theorems.{GivesPair}
-use Rattle.constraints.proofs.Said as read
+use Rattle.constraints.proofs.Said.{refused-is, pair-iff-all-yes, given-is-text-pair}
 use Rattle.constraints.proofs.Streams.{text-pair-passes, satisfies-iff-conforms}
-use Rattle.rendering.specs.Rendering as rendering
-use Rattle.rendering.proofs.Said as rendered
+use Rattle.rendering.specs.Rendering.{longest, line, textOf, refusalLine, rendering}
+use Rattle.rendering.proofs.Said.{written-is, text-fits, refusal-fits}
 use Rattle.report.specs.declared.Output.{Output}
-use Rattle.rendering.specs.Rendering.{refusalLine}
 use Rattle.report.specs.Report.{zeroLists, afterRendering, afterClosing, afterReading, output, reported}
 use Rattle.report.specs.Theorems.{pairIn, OutputIs, OutputRefusedIffNoStream, OutputFits}
 
@@ -39,29 +38,29 @@ goes-on n x y e = ap (λ (b : Bool). cond b x y) (eq-eqb n 0 e)
 
 -- ---- rendering and closing
 -- A pair that passes is written as its text.
-pub rendered-is : (p : Pair) → AllYes (pairQuestions p) → afterRendering (rendering.rendering p) ≡ rendering.textOf p
-rendered-is p ok = ap afterRendering (rendered.written-is p ok) ∙ take-append-seam (rendering.textOf p) _
+pub rendered-is : (p : Pair) → AllYes (pairQuestions p) → afterRendering (rendering p) ≡ textOf p
+rendered-is p ok = ap afterRendering (written-is p ok) ∙ take-append-seam (textOf p) _
 
 pub blank-lengths : (length (zeroLists .upper) ≡ maxHorizon) × (length (zeroLists .lower) ≡ maxHorizon)
 unfolding zeroLists
 blank-lengths = (length-replicate {A = ℕ} maxHorizon 0, length-replicate {A = ℕ} maxHorizon 0)
 
 module _ (p : Pair) where
-  passes : AllYes (pairQuestions p) → closing.PassesFour p zeroLists
+  passes : AllYes (pairQuestions p) → PassesFour p zeroLists
   passes ok =
       (ok .0, (ok .1 .0, ((omega (arith, ok .0 .1, blank-lengths .0), omega (arith, ok .0 .1, blank-lengths .1)), (ok .1 .1 .0, tt))))
 
-  closed-output : closing.GivesClosure p zeroLists
-      → afterClosing (horizon p) (closure.closing p zeroLists) ≡ rendering.textOf (closing.closureOf p zeroLists)
+  closed-output : GivesClosure p zeroLists
+      → afterClosing (horizon p) (closing p zeroLists) ≡ textOf (closureOf p zeroLists)
   closed-output g =
-      goes-on (closure.closing p zeroLists .number) _ _ g ∙ rendered-is (closing.closureOf p zeroLists) (promised.closure-passes p zeroLists g)
+      goes-on (closing p zeroLists .number) _ _ g ∙ rendered-is (closureOf p zeroLists) (closure-passes p zeroLists g)
 
-  refused-output : closure.closing p zeroLists ≡ closure.refusedClosing 5 zeroLists → afterClosing (horizon p) (closure.closing p zeroLists) ≡ refusalLine 5
+  refused-output : closing p zeroLists ≡ refusedClosing 5 zeroLists → afterClosing (horizon p) (closing p zeroLists) ≡ refusalLine 5
   refused-output e = ap (afterClosing (horizon p)) e
 
 -- ---- reading
 -- The numbers of a record's questions.
-record-number : (earlier : List Constraint) (rs : List Bytes) (n : ℕ) → FirstNo (constraints.recordQuestions earlier rs) n
+record-number : (earlier : List Constraint) (rs : List Bytes) (n : ℕ) → FirstNo (recordQuestions earlier rs) n
     → (7 ≤ n) × (n ≤ 9)
 record-number earlier [] n f = absurd f
 record-number earlier (r ∷ rs) n f =
@@ -78,63 +77,63 @@ record-number earlier (r ∷ rs) n f =
 
 module _ (t : Bytes) where
   -- The lists are long enough for every text, so that 11 is not given.
-  number-within : (n : ℕ) → FirstNo (constraints.readingQuestions t zeroLists) n → (6 ≤ n) × (n ≤ 10)
+  number-within : (n : ℕ) → FirstNo (readingQuestions t zeroLists) n → (6 ≤ n) × (n ≤ 10)
   number-within n f =
       ⊎-elim
       (λ h. (omega (arith, h .0), omega (arith, h .0)))
       (λ h. ⊎-elim
-      (λ g. let k = record-number [] (constraints.later t) n g in (omega (arith, k .0), omega (arith, k .1)))
+      (λ g. let k = record-number [] (later t) n g in (omega (arith, k .0), omega (arith, k .1)))
       (λ g. ⊎-elim (λ k. (omega (arith, k .0), omega (arith, k .0))) (λ k. absurd (long-enough (g .0) (k .1))) (g .1))
-      (no-parts (constraints.recordQuestions [] (constraints.later t)) _ n (h .1)))
+      (no-parts (recordQuestions [] (later t)) _ n (h .1)))
       f
     where
-      long-enough : AllYes (constraints.recordQuestions [] (constraints.later t)) → FirstNo (constraints.question11 t zeroLists ∷ []) n → ⊥
+      long-enough : AllYes (recordQuestions [] (later t)) → FirstNo (question11 t zeroLists ∷ []) n → ⊥
       long-enough ys no₁₁ =
-          let h = largest-bound (constraints.constraints t) (in-range [] (constraints.later t) ys) in
+          let h = largest-bound (constraints t) (in-range [] (later t) ys) in
           ⊎-elim (λ k. k .1 (omega (arith, h, blank-lengths .0), omega (arith, h, blank-lengths .1))) (λ k. k .1) no₁₁
 
-  unread-output : (n : ℕ) → FirstNo (constraints.readingQuestions t zeroLists) n → output t ≡ refusalLine n
+  unread-output : (n : ℕ) → FirstNo (readingQuestions t zeroLists) n → output t ≡ refusalLine n
   unfolding output
-  unread-output n f = ap afterReading (read.refused-is t zeroLists n f) ∙ refuses n _ _ (omega (arith, number-within n f .0))
+  unread-output n f = ap afterReading (refused-is t zeroLists n f) ∙ refuses n _ _ (omega (arith, number-within n f .0))
 
   module _ (g : GivesPair t zeroLists) where
     passes-pair : AllYes (pairQuestions (pairIn t))
     passes-pair = text-pair-passes t zeroLists g
 
-    read-horizon : constraints.reading t zeroLists .horizon ≡ horizon (pairIn t)
+    read-horizon : reading t zeroLists .horizon ≡ horizon (pairIn t)
     read-horizon =
-        let e = read.given-is-text-pair t zeroLists g in
-        e .0 ∙ sym (ap horizon (e .1) ∙ length-table _ (constraints.horizonOf t))
+        let e = given-is-text-pair t zeroLists g in
+        e .0 ∙ sym (ap horizon (e .1) ∙ length-table _ (horizonOf t))
 
-    read-output : output t ≡ afterClosing (horizon (pairIn t)) (closure.closing (pairIn t) zeroLists)
+    read-output : output t ≡ afterClosing (horizon (pairIn t)) (closing (pairIn t) zeroLists)
     unfolding output
     read-output =
-        goes-on (constraints.reading t zeroLists .number) _ _ g
-        ∙ ap (λ h. afterClosing h (closure.closing (pairIn t) zeroLists)) read-horizon
+        goes-on (reading t zeroLists .number) _ _ g
+        ∙ ap (λ h. afterClosing h (closing (pairIn t) zeroLists)) read-horizon
 
-    closes : (closure.closing (pairIn t) zeroLists ≡ closure.refusedClosing 5 zeroLists) ⊎ closing.GivesClosure (pairIn t) zeroLists
-    closes = given.else-closed (pairIn t) zeroLists (passes (pairIn t) passes-pair)
+    closes : (closing (pairIn t) zeroLists ≡ refusedClosing 5 zeroLists) ⊎ GivesClosure (pairIn t) zeroLists
+    closes = else-closed (pairIn t) zeroLists (passes (pairIn t) passes-pair)
 
 -- ---- the statements
 pub output-is : OutputIs
 output-is t =
     ⊎-elim
     (λ ys.
-    let g = read.pair-iff-all-yes t zeroLists .1 ys in
+    let g = pair-iff-all-yes t zeroLists .1 ys in
     ⊎-elim
     (λ e. inr (inl (g, read-output t g ∙ refused-output (pairIn t) e)))
     (λ c. inl (g, c, read-output t g ∙ closed-output (pairIn t) c))
     (closes t g))
     (λ f. inr (inr (f .0, number-within t (f .0) (f .1) .0, number-within t (f .0) (f .1) .1, f .1, unread-output t (f .0) (f .1))))
-    (ask (constraints.readingQuestions t zeroLists))
+    (ask (readingQuestions t zeroLists))
 
 -- A text of curves begins with `w`, a refusal with `r`.
-text-begins : (p : Pair) → getD (rendering.textOf p) 0 0 ≡ 119
-unfolding rendering.textOf fold
+text-begins : (p : Pair) → getD (textOf p) 0 0 ≡ 119
+unfolding textOf fold
 text-begins p = go (horizon p) .1
   where
     lines : ℕ → Bytes
-    lines d = rendering.line d (lowerAt p d) (upperAt p d)
+    lines d = line d (lowerAt p d) (upperAt p d)
 
     go : (n : ℕ) → (1 ≤ length (fold _++_ (header ++ crlf) lines n)) × (getD (fold _++_ (header ++ crlf) lines n) 0 0 ≡ 119)
     go zero = (omega arith, refl)
@@ -151,41 +150,41 @@ pub output-refused-iff-no-stream : OutputRefusedIffNoStream
 output-refused-iff-no-stream t g = (there, back)
   where
     -- Closing the text's pair is refused exactly where no stream satisfies the constraints.
-    there : output t ≡ refusalLine 5 → (s : Stream) → Each (Satisfies (s .counts)) (constraints.constraints t) → ⊥
+    there : output t ≡ refusalLine 5 → (s : Stream) → Each (Satisfies (s .counts)) (constraints t) → ⊥
     there e s ks =
         ⊎-elim
         (λ r.
-        given.refused-iff-no-stream (pairIn t) zeroLists (passes (pairIn t) (passes-pair t g)) .0 r s
+        refused-iff-no-stream (pairIn t) zeroLists (passes (pairIn t) (passes-pair t g)) .0 r s
         (satisfies-iff-conforms t zeroLists g s .0 ks))
         (λ c. let o = sym (read-output t g ∙ closed-output (pairIn t) c) ∙ e in
-        omega (arith, text-begins (closing.closureOf (pairIn t) zeroLists), ap (λ (x : Bytes). getD x 0 0) o, refusal-begins 5))
+        omega (arith, text-begins (closureOf (pairIn t) zeroLists), ap (λ (x : Bytes). getD x 0 0) o, refusal-begins 5))
         (closes t g)
 
-    back : ((s : Stream) → Each (Satisfies (s .counts)) (constraints.constraints t) → ⊥) → output t ≡ refusalLine 5
+    back : ((s : Stream) → Each (Satisfies (s .counts)) (constraints t) → ⊥) → output t ≡ refusalLine 5
     back none =
         read-output t g
         ∙ refused-output (pairIn t)
-        (given.refused-iff-no-stream (pairIn t) zeroLists (passes (pairIn t) (passes-pair t g)) .1
+        (refused-iff-no-stream (pairIn t) zeroLists (passes (pairIn t) (passes-pair t g)) .1
         (λ s h. none s (satisfies-iff-conforms t zeroLists g s .1 h)))
 
 pub output-fits : OutputFits
 output-fits t =
     ⊎-elim
-    (λ c. subst Fits (sym (c .2)) (rendered.text-fits (closing.closureOf (pairIn t) zeroLists) (promised.closure-passes (pairIn t) zeroLists (c .1))))
+    (λ c. subst Fits (sym (c .2)) (text-fits (closureOf (pairIn t) zeroLists) (closure-passes (pairIn t) zeroLists (c .1))))
     (λ r. ⊎-elim (λ h. subst Fits (sym (h .1)) (short 5 (omega arith))) (λ h. subst Fits (sym (h .4)) (short (h .0) (h .2))) r)
     (output-is t)
   where
     Fits : Bytes → Type 0
-    Fits o = length o ≤ rendering.longest
+    Fits o = length o ≤ longest
 
     short : (n : ℕ) → n ≤ 10 → Fits (refusalLine n)
-    short n l = rendered.refusal-fits n (omega arith)
+    short n l = refusal-fits n (omega arith)
 
 -- The length that `report` gives back is within its bytes, so that the output can be taken as a part of them.
 module _ (t : Bytes) (o : Output) (e : o ≡ reported (output t)) where
   pub reported-within : o .length ≤ length (o .bytes)
   reported-within =
-      let whole = length-append (output t) (replicate {A = ℕ} (rendering.longest - length (output t)) 0) in
+      let whole = length-append (output t) (replicate {A = ℕ} (longest - length (output t)) 0) in
       omega (arith, ap (λ x. x .length) e, ap (λ x. length (x .bytes)) e, whole)
 
   pub reported-part : o .length ≡ length (take (o .length) (o .bytes))

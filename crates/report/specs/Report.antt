@@ -5,10 +5,10 @@ use lib.Dec.{eqb}
 use lib.ListN.{length, take, replicate}
 use Rattle.curves.specs.Pairs.{Pair, pairOf, first}
 use Rattle.bounds.specs.Bounds.{maxHorizon}
-use Rattle.closure.specs.Closing as closure
+use Rattle.closure.specs.Closing.{ClosingAnswer, closing}
 use Rattle.csv.specs.Text.{Bytes}
-use Rattle.constraints.specs.Reading as constraints
-use Rattle.rendering.specs.Rendering as rendering
+use Rattle.constraints.specs.Reading.{ReadingAnswer, reading}
+use Rattle.rendering.specs.Rendering.{paddedText, refusalLine, RenderingAnswer, rendering}
 use Rattle.report.specs.declared.Output.{Output}
 
 -- Two lists of the longest horizon, lent for results.
@@ -16,22 +16,22 @@ unfoldable pub zeroLists : Pair
 zeroLists = pairOf (replicate maxHorizon 0) (replicate maxHorizon 0)
 
 -- What is written once a step has answered: its refusal, or what the next step leads to.
-abbrev pub afterRendering : rendering.RenderingAnswer → Bytes
-afterRendering a = cond (eqb (a .number) 0) (take (a .length) (a .bytes)) (rendering.refusalLine (a .number))
+abbrev pub afterRendering : RenderingAnswer → Bytes
+afterRendering a = cond (eqb (a .number) 0) (take (a .length) (a .bytes)) (refusalLine (a .number))
 
-abbrev pub afterClosing : ℕ → closure.ClosingAnswer → Bytes
-afterClosing h a = cond (eqb (a .number) 0) (afterRendering (rendering.rendering (first h (a .results)))) (rendering.refusalLine (a .number))
+abbrev pub afterClosing : ℕ → ClosingAnswer → Bytes
+afterClosing h a = cond (eqb (a .number) 0) (afterRendering (rendering (first h (a .results)))) (refusalLine (a .number))
 
-abbrev pub afterReading : constraints.ReadingAnswer → Bytes
+abbrev pub afterReading : ReadingAnswer → Bytes
 afterReading a =
     cond (eqb (a .number) 0)
-    (afterClosing (a .horizon) (closure.closing (first (a .horizon) (a .results)) zeroLists))
-    (rendering.refusalLine (a .number))
+    (afterClosing (a .horizon) (closing (first (a .horizon) (a .results)) zeroLists))
+    (refusalLine (a .number))
 
 -- The output for the text t: reading, closing, rendering.
 unfoldable pub output : Bytes → Bytes
-output t = afterReading (constraints.reading t zeroLists)
+output t = afterReading (reading t zeroLists)
 
 -- The same as `report` gives it back: the bytes, padded, and their number.
 abbrev pub reported : Bytes → Output
-reported o = record { length = length o; bytes = rendering.paddedText o }
+reported o = record { length = length o; bytes = paddedText o }

@@ -15,7 +15,8 @@ returns-2 : tie.Need-returns-2
 returns-2 c =
     let k = c .before .before in
     let told = k .before .render in
-    pair-shown (told .result) _ (c .output-of .ensures) _ (told .ensures) (omega (arith, k .rendering-number .ensures, c .before .if1 .left))
+    pair-shown (told .result) _ (c .output-of .ensures) _ (told .ensures)
+    (omega (arith, k .rendering-number .ensures, c .before .if1 .left))
 
 pub report-closure-spec : {M : Type 1} → statement M
 report-closure-spec =

@@ -1,4 +1,5 @@
--- `scripts::generate_all` meets its contract: before a turn the choices before i have led to counts, and the generator is where these left it.
+-- `scripts::generate_all` meets its contract: before a turn the choices before i have led to counts, and the generator is where these
+-- left it.
 -- Assumes nothing.
 use Rattle.laws.proofs.Base.{ℕ, _-_, _≤_, _≡_, refl, ap, _∙_, List, map, arith, needs, length}
 use Rattle.history.specs.States.{View, viewOf}

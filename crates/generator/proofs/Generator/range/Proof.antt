@@ -20,7 +20,8 @@ legal e = let told = e .before .is-legal .result in told-yes _ told (e .if1 .lef
 returns-2 : tie.Need-returns-2
 returns-2 c =
     let found = c .before in
-    shown-range _ (legal (found .before)) (found .find-limits .result) (found .find-limits .ensures) (c .range-of .result) (c .range-of .ensures)
+    shown-range _ (legal (found .before)) (found .find-limits .result) (found .find-limits .ensures) (c .range-of .result)
+    (c .range-of .ensures)
 
 pub range-spec : {M : Type 1} → statement M
 range-spec =
