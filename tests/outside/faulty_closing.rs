@@ -45,7 +45,7 @@ impl Faulty {
         let short = closed_upper_length < horizon || (closed_lower_length < horizon && !self.has(ClosedUpperOnlyAsked));
         let mut questions = [
             (1, self.too_long(horizon)),
-            (2, lower.len() != horizon),
+            (2, lower.len() < horizon || (lower.len() > horizon && !self.has(LongerLowerTaken))),
             (3, short),
             (4, self.over_limit(upper, lower)),
             (5, self.given_crosses(upper, lower)),

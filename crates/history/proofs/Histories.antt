@@ -88,12 +88,12 @@ entries-padded us rest h e =
 abbrev freshHistory : ℕ → List ℕ → List ℕ → List ℕ → History
 freshHistory h us ls xs = record { horizon = h; upper = us; lower = ls; held = 0; ticks = xs }
 
--- Three arrays of zeros make a blank history.
-pub blank-is
+-- Three arrays of zeros make a history of zeros.
+pub zero-history-is
     : (us ls xs : List ℕ) → us ≡ replicate maxHorizon 0 → ls ≡ replicate maxHorizon 0 → xs ≡ replicate maxHorizon 0
     → freshHistory 0 us ls xs ≡ zeroHistory
 unfolding zeroHistory
-blank-is us ls xs u l x = λ i. freshHistory 0 (u i) (l i) (x i)
+zero-history-is us ls xs u l x = λ i. freshHistory 0 (u i) (l i) (x i)
 
 -- ---- the answer of an opening
 module _ (p : Pair) where
@@ -119,8 +119,8 @@ module _ (p : Pair) (h : History) (o : Opening) (e : openingReply o ≡ opening 
   pub begun-fresh : o ≡ Opened → viewOf h ≡ fresh p → Begun (opening p) p h
   begun-fresh k v = rw (← e, k) v
 
-  pub begun-blank : OneOf (1 ∷ 2 ∷ 3 ∷ []) (tagOf the-type o) → h ≡ zeroHistory → Begun (opening p) p h
-  begun-blank m b = rw (← e) (refused o m)
+  pub begun-zero : OneOf (1 ∷ 2 ∷ 3 ∷ []) (tagOf the-type o) → h ≡ zeroHistory → Begun (opening p) p h
+  begun-zero m b = rw (← e) (refused o m)
     where
       refused : (o : Opening) → OneOf (1 ∷ 2 ∷ 3 ∷ []) (tagOf the-type o) → Begun (openingReply o) p h
       refused Opened m = absurd (miss (1 ∷ 2 ∷ 3 ∷ []) 0 tt m)

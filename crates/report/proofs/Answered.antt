@@ -25,10 +25,10 @@ module _ (n m : ℕ) (x : Bytes) (o : Output) (e : m ≡ n) where
   next-told h is = is ∙ ap reported (sym (goes-on n x (refusalLine n) (omega arith)))
 
 -- The report for an answer into lists that were found blank.
-pub into-blank : {A : Type 0} (f : Pair → A) (g : A → Output) (us ls : List ℕ) (a : A) (o : Output)
+pub into-zeros : {A : Type 0} (f : Pair → A) (g : A → Output) (us ls : List ℕ) (a : A) (o : Output)
     → us ≡ replicate maxHorizon 0 → ls ≡ replicate maxHorizon 0 → a ≡ f (pairOf us ls) → o ≡ g a → o ≡ g (f zeroLists)
 unfolding zeroLists
-into-blank f g us ls a o u l e is = is ∙ ap g (e ∙ (λ i. f (pairOf (u i) (l i))))
+into-zeros f g us ls a o u l e is = is ∙ ap g (e ∙ (λ i. f (pairOf (u i) (l i))))
 
 -- ---- reading
 -- The horizon that is answered is within the limit.

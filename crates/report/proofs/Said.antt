@@ -41,14 +41,14 @@ goes-on n x y e = ap (λ (b : Bool). cond b x y) (eq-eqb n 0 e)
 pub rendered-is : (p : Pair) → AllYes (pairQuestions p) → afterRendering (rendering p) ≡ textOf p
 rendered-is p ok = ap afterRendering (written-is p ok) ∙ take-append-seam (textOf p) _
 
-pub blank-lengths : (length (zeroLists .upper) ≡ maxHorizon) × (length (zeroLists .lower) ≡ maxHorizon)
+pub zero-lengths : (length (zeroLists .upper) ≡ maxHorizon) × (length (zeroLists .lower) ≡ maxHorizon)
 unfolding zeroLists
-blank-lengths = (length-replicate {A = ℕ} maxHorizon 0, length-replicate {A = ℕ} maxHorizon 0)
+zero-lengths = (length-replicate {A = ℕ} maxHorizon 0, length-replicate {A = ℕ} maxHorizon 0)
 
 module _ (p : Pair) where
   passes : AllYes (pairQuestions p) → PassesFour p zeroLists
   passes ok =
-      (ok .0, (ok .1 .0, ((omega (arith, ok .0 .1, blank-lengths .0), omega (arith, ok .0 .1, blank-lengths .1)), (ok .1 .1 .0, tt))))
+      (ok .0, (ok .1 .0, ((omega (arith, ok .0 .1, zero-lengths .0), omega (arith, ok .0 .1, zero-lengths .1)), (ok .1 .1 .0, tt))))
 
   closed-output : GivesClosure p zeroLists
       → afterClosing (horizon p) (closing p zeroLists) ≡ textOf (closureOf p zeroLists)
@@ -90,7 +90,7 @@ module _ (t : Bytes) where
       long-enough : AllYes (recordQuestions [] (later t)) → FirstNo (question11 t zeroLists ∷ []) n → ⊥
       long-enough ys no₁₁ =
           let h = largest-bound (constraints t) (in-range [] (later t) ys) in
-          ⊎-elim (λ k. k .1 (omega (arith, h, blank-lengths .0), omega (arith, h, blank-lengths .1))) (λ k. k .1) no₁₁
+          ⊎-elim (λ k. k .1 (omega (arith, h, zero-lengths .0), omega (arith, h, zero-lengths .1))) (λ k. k .1) no₁₁
 
   unread-output : (n : ℕ) → FirstNo (readingQuestions t zeroLists) n → output t ≡ refusalLine n
   unfolding output

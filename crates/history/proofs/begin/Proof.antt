@@ -2,7 +2,7 @@
 -- Assumes nothing.
 use borrow.Author.Needs.{needs}
 use Rattle.curves.specs.Pairs.{Pair, pairOf}
-use Rattle.history.proofs.Histories.{opened-yes, begun-fresh, begun-blank}
+use Rattle.history.proofs.Histories.{opened-yes, begun-fresh, begun-zero}
 use Rattle.history.proofs.begin.Statement.{statement}
 use Rattle.history.proofs.begin.Tie as tie
 
@@ -17,7 +17,7 @@ returns c =
 returns-2 : tie.Need-returns-2
 returns-2 c =
     let s = c .before .before .before .before in
-    begun-blank (for s) _ (s .args .answer) (s .pre) (c .before .match .keys2) (c .zero-history .ensures)
+    begun-zero (for s) _ (s .args .answer) (s .pre) (c .before .match .keys2) (c .zero-history .ensures)
 
 pub begin-spec : {M : Type 1} → statement M
 begin-spec =

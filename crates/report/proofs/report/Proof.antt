@@ -3,7 +3,7 @@
 use Rattle.laws.proofs.Base.{ap, needs}
 use Rattle.constraints.specs.Reading.{reading}
 use Rattle.report.specs.Report.{afterReading, output, reported}
-use Rattle.report.proofs.Answered.{into-blank, read-within}
+use Rattle.report.proofs.Answered.{into-zeros, read-within}
 use Rattle.report.proofs.report.Statement.{statement}
 use Rattle.report.proofs.report.Tie as tie
 
@@ -17,7 +17,7 @@ unfolding output
 returns c =
     let k = c .before .before .before .before .before in
     let z = k .before .before .before in
-    into-blank (reading (z .before .before .before .args .text .now)) (λ a. reported (afterReading a)) _ _ _ _
+    into-zeros (reading (z .before .before .before .args .text .now)) (λ a. reported (afterReading a)) _ _ _ _
     (z .before .zeros .ensures) (z .zeros2 .ensures) (k .read .ensures) (c .report-reading .ensures)
 
 pub report-spec : {M : Type 1} → statement M

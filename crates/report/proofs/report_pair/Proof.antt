@@ -4,7 +4,7 @@ use Rattle.laws.proofs.Base.{needs, length}
 use Rattle.curves.specs.Pairs.{pairOf}
 use Rattle.closure.specs.Closing.{closing}
 use Rattle.report.specs.Report.{afterClosing, reported}
-use Rattle.report.proofs.Answered.{into-blank}
+use Rattle.report.proofs.Answered.{into-zeros}
 use Rattle.report.proofs.report_pair.Statement.{statement}
 use Rattle.report.proofs.report_pair.Tie as tie
 
@@ -13,7 +13,7 @@ returns c =
     let k = c .before .before .before .before .before in
     let z = k .before .before .before in
     let s = z .before .before .before .before in
-    into-blank (closing (pairOf (s .args .upper .now) (s .args .lower .now)))
+    into-zeros (closing (pairOf (s .args .upper .now) (s .args .lower .now)))
     (λ a. reported (afterClosing (length (s .args .upper .now)) a)) _ _ _ _
     (z .before .zeros .ensures) (z .zeros2 .ensures) (k .close .ensures) (c .report-closing .ensures)
 
