@@ -1,2 +1,3 @@
--- The laws that the functions' proofs cite. Assumes nothing.
+-- What is proved of the questions on a pair, and the laws that the functions' proofs cite. Assumes nothing.
+pub mod Said
 mod Laws

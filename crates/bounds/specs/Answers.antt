@@ -1,13 +1,10 @@
 -- Document 01's number for each case of `Asked`.
-use Rattle.curves.specs.Pairs.{Pair}
-use Rattle.curves.specs.Questions.{AllYes, FirstNo}
+use Rattle.curves.specs.Questions.{Reply, result, refusal}
 use Rattle.bounds.specs.declared.Asked.{Asked}
 use Rattle.bounds.specs.declared.Asked.the-variants.{Passes, UpperLength, LowerLength, FigureLimit}
-use Rattle.bounds.specs.Bounds.{pairQuestions}
 
--- What asking the questions of a pair has found.
-abbrev pub Found : Pair → Asked → Type 0
-Found p Passes = AllYes (pairQuestions p)
-Found p UpperLength = FirstNo (pairQuestions p) 1
-Found p LowerLength = FirstNo (pairQuestions p) 2
-Found p FigureLimit = FirstNo (pairQuestions p) 4
+abbrev pub askedReply : Asked → Reply (Unit {0})
+askedReply Passes = result tt
+askedReply UpperLength = refusal 1
+askedReply LowerLength = refusal 2
+askedReply FigureLimit = refusal 4

@@ -7,7 +7,7 @@ use native.Mathlib.Decide.{decLe, ℕ-discrete}
 use lib.ListN.{length}
 use Rattle.laws.proofs.Search.{every?}
 use Rattle.curves.specs.Pairs.{Pair, horizon, figure}
-use Rattle.curves.specs.Questions.{Question}
+use Rattle.curves.specs.Questions.{Question, Reply, replyTo}
 
 -- The longest horizon.
 abbrev pub maxHorizon : ℕ
@@ -49,6 +49,10 @@ question4 p =
 -- Those of an operation that lends no lists for results.
 abbrev pub pairQuestions : Pair → List Question
 pairQuestions p = question1 p ∷ question2 p ∷ question4 p ∷ []
+
+-- What asking them answers: nothing more, or the refusal with the number of the first that is answered no.
+unfoldable pub asking : Pair → Reply (Unit {0})
+asking p = replyTo (pairQuestions p) (λ _. tt)
 
 -- Two lists that are lent for results, as found, have room for a pair with the horizon h (questions 3 and 11).
 abbrev pub RoomFor : ℕ → Pair → Type 0

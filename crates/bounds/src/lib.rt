@@ -1,9 +1,10 @@
 // The limits of a pair, as every operation on a pair asks about them.
 
+ghost use mathlib.Core.Path.{_≡_};
 ghost use Rattle.laws.specs.Tests.{Tells};
 ghost use Rattle.curves.specs.Pairs.{pairOf};
-ghost use Rattle.bounds.specs.Bounds.{Bounded};
-ghost use Rattle.bounds.specs.Answers.{Found};
+ghost use Rattle.bounds.specs.Bounds.{Bounded, asking};
+ghost use Rattle.bounds.specs.Answers.{askedReply};
 
 // The longest horizon, and the largest figure.
 const MAX_HORIZON: usize = 256;
@@ -23,7 +24,7 @@ pub enum Asked {
 
 // Asks them of the pair of `upper` (ceilings) and `lower` (leasts).
 pub fn ask(upper: &[u32], lower: &[u32]) -> Asked
-    ensures { λ r. ⌜ Found (pairOf (now (upper .entry)) (now (lower .entry))) r ⌝ }
+    ensures { λ r. ⌜ askedReply r ≡ asking (pairOf (now (upper .entry)) (now (lower .entry))) ⌝ }
 {
     let horizon = upper.len();
     if horizon < 1 {

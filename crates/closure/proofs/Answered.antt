@@ -10,7 +10,7 @@ use Rattle.curves.proofs.Arrival.{never-both}
 use Rattle.bounds.specs.Bounds.{question1, question2, question4}
 use Rattle.closure.specs.declared.Closing.{Closing}
 use Rattle.closure.specs.declared.Closing.the-variants.{Closed, UpperLength, LowerLength, ResultLength, FigureLimit, NoClosure}
-use Rattle.closure.specs.Closing.{question3, refusedClosing, closed, closing}
+use Rattle.closure.specs.Closing.{question3, refusedClosing, givenClosing, closing}
 use Rattle.closure.specs.Answers.{closingAnswer}
 use Rattle.closure.specs.Theorems.{PassesFour}
 use Rattle.closure.specs.Steps.{Fit, Ended}
@@ -48,7 +48,7 @@ module _ (p found : Pair) where
     parts us ls = pairOf (us ++ drop (horizon p) (found .upper)) (ls ++ drop (horizon p) (found .lower))
 
     -- Lists of figures are the tables of their figures.
-    whole-lists : closed 0 (pairOf xs ys) found .results ≡ parts xs ys
+    whole-lists : givenClosing 0 (pairOf xs ys) found .results ≡ parts xs ys
     whole-lists =
         λ i. record {
           upper = table-figures xs i ++ drop (lx i) (found .upper);

@@ -12,7 +12,7 @@ use Rattle.curves.proofs.Agreement.{given-equal}
 use Rattle.curves.proofs.Arrival.{arrives-or-crosses}
 use Rattle.curves.proofs.Kept.{crossed-has-no-stream}
 use Rattle.curves.proofs.Closure.{arrives-equal, closure-horizon, closure-begins}
-use Rattle.closure.specs.Closing.{refusedClosing, closed, closing}
+use Rattle.closure.specs.Closing.{refusedClosing, givenClosing, closing}
 use Rattle.closure.specs.Theorems.{PassesFour, GivesClosure, closureOf, ClosureIsArrivedAt, RefusedIffNoStream, ElseClosed}
 use Rattle.closure.proofs.Said.{refused-is, closed-is, closed-equal, fifth, gives-passes}
 
@@ -27,7 +27,7 @@ module _ (p found : Pair) (g : GivesClosure p found) where
   unfolding n q
   at-q = gives-passes p found g .1 .2
 
-  answer-is : closing p found ≡ closed n q found
+  answer-is : closing p found ≡ givenClosing n q found
   answer-is = closed-is p found n q (gives-passes p found g .0) at-q
 
   -- The first entries are the closure's figures.

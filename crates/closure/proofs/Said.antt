@@ -8,11 +8,11 @@ use Rattle.curves.specs.Questions.{AllYes, FirstNo, ask}
 use Rattle.curves.specs.Theorems.{Closes}
 use Rattle.curves.proofs.Asked.{said-no, said-yes, Positive, no-iff, yes-iff}
 use Rattle.curves.proofs.Arrival.{arrives-once}
-use Rattle.closure.specs.Closing.{closingQuestions, refusedClosing, closed, closing}
+use Rattle.closure.specs.Closing.{closingQuestions, refusedClosing, givenClosing, closing}
 use Rattle.closure.specs.Theorems.{PassesFour, GivesWhatArrives, ClosingRefused, GivesClosure, ClosureIffAllYes}
 
 -- The answer depends on the closure's figures only.
-pub closed-equal : (found : Pair) (m n : ℕ) (q r : Pair) → m ≡ n → Equal q r → closed m q found ≡ closed n r found
+pub closed-equal : (found : Pair) (m n : ℕ) (q r : Pair) → m ≡ n → Equal q r → givenClosing m q found ≡ givenClosing n r found
 closed-equal found m n q r e s =
     λ i. record {
       number = 0;
@@ -35,11 +35,11 @@ module _ (p found : Pair) where
   passed : AllYes (closingQuestions p found) → PassesFour p found × Closes p
   passed ys = ((ys .0, (ys .1 .0, (ys .1 .1 .0, (ys .1 .1 .1 .0, tt)))), ys .1 .1 .1 .1 .0)
 
-  pub closed-is : (n : ℕ) (q : Pair) → PassesFour p found → Arrives whole p n q → closing p found ≡ closed n q found
+  pub closed-is : (n : ℕ) (q : Pair) → PassesFour p found → Arrives whole p n q → closing p found ≡ givenClosing n q found
   unfolding closing
-  closed-is n q ok a = said-yes (closingQuestions p found) _ _ (closed n q found) (all-yes ok (n, q, a)) same
+  closed-is n q ok a = said-yes (closingQuestions p found) _ _ (givenClosing n q found) (all-yes ok (n, q, a)) same
     where
-      same : (ys : AllYes (closingQuestions p found)) → closed (ys .1 .1 .1 .1 .0 .0) (ys .1 .1 .1 .1 .0 .1) found ≡ closed n q found
+      same : (ys : AllYes (closingQuestions p found)) → givenClosing (ys .1 .1 .1 .1 .0 .0) (ys .1 .1 .1 .1 .0 .1) found ≡ givenClosing n q found
       same ys =
           let c : Closes p = ys .1 .1 .1 .1 .0 in
           let one = arrives-once p (c .1) q (c .0) n (c .2) a in

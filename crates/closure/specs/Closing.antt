@@ -34,8 +34,8 @@ abbrev pub refusedClosing : ℕ → Pair → ClosingAnswer
 refusedClosing n found = record { number = n; rounds = 0; results = found }
 
 -- The closure q in the first H entries of the result lists; the others as found.
-abbrev pub closed : ℕ → Pair → Pair → ClosingAnswer
-closed n q found =
+abbrev pub givenClosing : ℕ → Pair → Pair → ClosingAnswer
+givenClosing n q found =
     record {
       number = 0;
       rounds = n;
@@ -50,5 +50,5 @@ closed n q found =
 unfoldable pub closing : Pair → Pair → ClosingAnswer
 closing p found =
     answerTo (closingQuestions p found)
-    (λ yeses. let fifth : Closes p = yeses .1 .1 .1 .1 .0 in closed (fifth .0) (fifth .1) found)
+    (λ yeses. let fifth : Closes p = yeses .1 .1 .1 .1 .0 in givenClosing (fifth .0) (fifth .1) found)
     (λ n. refusedClosing n found)

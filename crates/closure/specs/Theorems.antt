@@ -10,7 +10,7 @@ use Rattle.curves.specs.Conformance.{Conforms, Conforms∞, Extendable, MetIn}
 use Rattle.curves.specs.Rounds.{whole, Arrives, Causal}
 use Rattle.curves.specs.Questions.{AllYes, FirstNo}
 use Rattle.bounds.specs.Bounds.{question1, question2, question4, pairQuestions}
-use Rattle.closure.specs.Closing.{question3, closingQuestions, refusedClosing, closed, closing}
+use Rattle.closure.specs.Closing.{question3, closingQuestions, refusedClosing, givenClosing, closing}
 
 -- The lists pass questions 1 to 4: those of the pair p, with result lists found to hold `found`.
 abbrev pub PassesFour : Pair → Pair → Type 0
@@ -26,13 +26,13 @@ closureOf p found = first (horizon p) (closing p found .results)
 -- ---- Demand 2, its last sentence. What the rounds arrive at is given, with their count; and what is given, they arrive at.
 abbrev pub GivesWhatArrives : Type 0
 GivesWhatArrives =
-    (p found : Pair) (n : ℕ) (q : Pair) → PassesFour p found → Arrives whole p n q → closing p found ≡ closed n q found
+    (p found : Pair) (n : ℕ) (q : Pair) → PassesFour p found → Arrives whole p n q → closing p found ≡ givenClosing n q found
 
 abbrev pub ClosureIsArrivedAt : Type 0
 ClosureIsArrivedAt =
     (p found : Pair) → GivesClosure p found
     → Arrives whole p (closing p found .rounds) (closureOf p found)
-    × (closing p found ≡ closed (closing p found .rounds) (closureOf p found) found)
+    × (closing p found ≡ givenClosing (closing p found .rounds) (closureOf p found) found)
 
 -- ---- Demand 1: refused with n exactly when question n is the first that is answered no; else a closure is given.
 abbrev pub ClosingRefused : Type 0
@@ -90,7 +90,7 @@ ClosurePasses = (p found : Pair) → GivesClosure p found → AllYes (pairQuesti
 abbrev pub ClosedAgain : Type 0
 ClosedAgain =
     (p found again : Pair) → GivesClosure p found → horizon p ≤ length (again .upper) → horizon p ≤ length (again .lower)
-    → closing (closureOf p found) again ≡ closed 0 (closureOf p found) again
+    → closing (closureOf p found) again ≡ givenClosing 0 (closureOf p found) again
 
 -- A pair is causal exactly where it is its own closure.
 abbrev pub CausalIffGivenBack : Type 0

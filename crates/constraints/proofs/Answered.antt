@@ -10,7 +10,7 @@ use Rattle.csv.proofs.Splitting.{records-first, record-short}
 use Rattle.csv.specs.Records.{constraintOf, messageLimit}
 use Rattle.constraints.specs.Constraints.{largestWindow}
 use Rattle.constraints.specs.Reading.{later, constraints, horizonOf, question6, question10, question11, recordQuestions}
-use Rattle.constraints.specs.Reading.{readingQuestions, refusedReading, pairGiven, reading}
+use Rattle.constraints.specs.Reading.{readingQuestions, refusedReading, givenReading, reading}
 use Rattle.constraints.specs.Answers.{readingAnswer}
 use Rattle.constraints.specs.Steps.{TableHolds, filledFrom, ScannedAs, Scanned, PairDelivered}
 use Rattle.constraints.specs.declared.Reading.{Reading}
@@ -65,7 +65,7 @@ module _ (t : Bytes) (found : Pair) where
       no-then n f = no-is n (inr (y₆, no-after (recordQuestions [] (later t)) _ n (sound .0) f))
 
       -- What the table gives is the text's pair.
-      whole : (h : ℕ) → h ≡ horizonOf t → filledFrom b h found ≡ pairGiven t found .results
+      whole : (h : ℕ) → h ≡ horizonOf t → filledFrom b h found ≡ givenReading t found .results
       whole h e =
           let l : horizonOf t ≤ maxHorizon = largest-bound (constraints t) (in-range [] (later t) (sound .0)) in
           rw (e, filled-upper b _ (sound .1) (horizonOf t) l, filled-lower b _ (sound .1) (horizonOf t) l)

@@ -9,7 +9,7 @@ use Rattle.curves.specs.Questions.{AllYes, FirstNo, result, refusal}
 use Rattle.curves.proofs.Asked.{no-before}
 use Rattle.csv.specs.Text.{Bytes, records}
 use Rattle.csv.proofs.Splitting.{rest-is, records-first, record-short}
-use Rattle.csv.specs.Records.{triple, firstRecord, Constraint, constraintOf, InRange}
+use Rattle.csv.specs.Records.{constraint, firstRecord, Constraint, constraintOf, InRange}
 use Rattle.records.specs.Recording.{spelt, recording, question7, question8}
 use Rattle.records.proofs.Said.{refused-iff, given-from}
 use Rattle.constraints.specs.Constraints.{New}
@@ -43,14 +43,14 @@ records-at s k l =
     rw (rest-is s k, records-first (drop k s) (omega (arith, length-drop k s)), drop-drop (n + 2) k s, e)
 
 -- The record r was found to be a constraint.
-module _ (r : Bytes) (w x m n : ℕ) (found : result (spelt (triple w x m) n) ≡ recording r) where
+module _ (r : Bytes) (w x m n : ℕ) (found : result (spelt (constraint w x m) n) ≡ recording r) where
   asked : AllYes (question7 r ∷ question8 r ∷ [])
   asked = given-from r _ (sym found) .0
 
-  same : spelt (constraintOf r) (length r) ≡ spelt (triple w x m) n
+  same : spelt (constraintOf r) (length r) ≡ spelt (constraint w x m) n
   same = given-from r _ (sym found) .1
 
-  pub found-in-range : InRange (triple w x m)
+  pub found-in-range : InRange (constraint w x m)
   found-in-range = subst InRange (ap (λ p. p .constraint) same) (asked .1 .0)
 
   pub found-length : n ≡ length r
@@ -70,7 +70,7 @@ module _ (s : Bytes) (rs₀ : List Bytes) (t : Table) (k : ℕ) (l : k < length 
       let others = recordQuestions (here .taken ++ (constraintOf r ∷ [])) (records (drop (k + length r + 2) s)) in
       here .noes n (no-before (question7 r ∷ question8 r ∷ []) (question9 (here .taken) r ∷ others) n (refused-iff r n .0 (sym e)))
 
-  module _ (w x m n : ℕ) (found : result (spelt (triple w x m) n) ≡ recording r) where
+  module _ (w x m n : ℕ) (found : result (spelt (constraint w x m) n) ≡ recording r) where
     ys : AllYes (question7 r ∷ question8 r ∷ [])
     ys = asked r w x m n found
 

@@ -7,18 +7,18 @@ use Rattle.curves.specs.Pairs.{Pair, pairOf}
 use Rattle.curves.specs.Questions.{ask}
 use Rattle.csv.specs.Text.{Bytes, comma, crlf, header, records, fields}
 use Rattle.csv.specs.Numbers.{valueAfter}
-use Rattle.csv.specs.Records.{triple}
+use Rattle.csv.specs.Records.{constraint}
 use Rattle.csv.proofs.Decisions.{digit?, numeral?, wellFormed?, inRange?}
 use Rattle.constraints.specs.Reading.{refusedReading, reading}
 use Rattle.constraints.specs.Constraints.{named, filled}
 
 -- The published triples up to their horizon: windows 1, 2 and 4 are filled by the smallest most, 3.
-published : filled 5 (triple 3 0 3 ∷ triple 5 5 9 ∷ []) ≡ pairOf (3 ∷ 6 ∷ 3 ∷ 12 ∷ 9 ∷ []) (0 ∷ 0 ∷ 0 ∷ 0 ∷ 5 ∷ [])
+published : filled 5 (constraint 3 0 3 ∷ constraint 5 5 9 ∷ []) ≡ pairOf (3 ∷ 6 ∷ 3 ∷ 12 ∷ 9 ∷ []) (0 ∷ 0 ∷ 0 ∷ 0 ∷ 5 ∷ [])
 unfolding named table
 published = refl
 
 -- Up to a longer horizon, windows past the largest that is named are filled like others.
-longer : filled 6 (triple 3 0 3 ∷ triple 5 5 9 ∷ []) ≡ pairOf (3 ∷ 6 ∷ 3 ∷ 12 ∷ 9 ∷ 18 ∷ []) (0 ∷ 0 ∷ 0 ∷ 0 ∷ 5 ∷ 0 ∷ [])
+longer : filled 6 (constraint 3 0 3 ∷ constraint 5 5 9 ∷ []) ≡ pairOf (3 ∷ 6 ∷ 3 ∷ 12 ∷ 9 ∷ 18 ∷ []) (0 ∷ 0 ∷ 0 ∷ 0 ∷ 5 ∷ 0 ∷ [])
 unfolding named table
 longer = refl
 

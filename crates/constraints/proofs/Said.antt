@@ -9,7 +9,7 @@ use Rattle.curves.proofs.Asked.{said-no, said-yes, yes-parts, Positive, no-iff,
 use Rattle.csv.specs.Text.{Bytes}
 use Rattle.csv.specs.Records.{Constraint, constraintOf}
 use Rattle.constraints.specs.Reading.{later, horizonOf, recordQuestions, question10, question11, readingQuestions}
-use Rattle.constraints.specs.Reading.{refusedReading, pairGiven, reading}
+use Rattle.constraints.specs.Reading.{refusedReading, givenReading, reading}
 use Rattle.constraints.specs.Theorems.{ReadingRefused, PairIffAllYes, GivesPair, GivenIsTextPair}
 
 module _ (t : Bytes) (found : Pair) where
@@ -17,9 +17,9 @@ module _ (t : Bytes) (found : Pair) where
   unfolding reading
   refused-is n f = said-no (readingQuestions t found) _ (λ k. refusedReading k found) n f
 
-  pub given-is : AllYes (readingQuestions t found) → reading t found ≡ pairGiven t found
+  pub given-is : AllYes (readingQuestions t found) → reading t found ≡ givenReading t found
   unfolding reading
-  given-is ys = said-yes (readingQuestions t found) _ _ (pairGiven t found) ys (λ _. refl)
+  given-is ys = said-yes (readingQuestions t found) _ _ (givenReading t found) ys (λ _. refl)
 
 positive-records : (earlier : List Constraint) (rs : List Bytes) (qs : List Question) → Positive qs
     → Positive (recordQuestions earlier rs ++ qs)

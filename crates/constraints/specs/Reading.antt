@@ -81,8 +81,8 @@ abbrev pub refusedReading : ℕ → Pair → ReadingAnswer
 refusedReading n found = record { number = n; horizon = 0; results = found }
 
 -- The text's pair in the first H entries of the result lists; the others as found.
-abbrev pub pairGiven : Bytes → Pair → ReadingAnswer
-pairGiven t found =
+abbrev pub givenReading : Bytes → Pair → ReadingAnswer
+givenReading t found =
     record {
       number = 0;
       horizon = horizonOf t;
@@ -95,4 +95,4 @@ pairGiven t found =
 
 -- Reading the text t: the first question that is answered no gives its number, else the text's pair is given.
 unfoldable pub reading : Bytes → Pair → ReadingAnswer
-reading t found = answerTo (readingQuestions t found) (λ _. pairGiven t found) (λ n. refusedReading n found)
+reading t found = answerTo (readingQuestions t found) (λ _. givenReading t found) (λ n. refusedReading n found)

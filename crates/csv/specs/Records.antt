@@ -14,8 +14,8 @@ pub record Constraint : Type 0 where
   pub least : ℕ
   pub most : ℕ
 
-abbrev pub triple : ℕ → ℕ → ℕ → Constraint
-triple w l m = record { window = w; least = l; most = m }
+abbrev pub constraint : ℕ → ℕ → ℕ → Constraint
+constraint w l m = record { window = w; least = l; most = m }
 
 -- The record that a text begins with; of an empty text, the empty record.
 abbrev pub firstRecord : Bytes → Bytes
@@ -27,7 +27,7 @@ WellFormed r = (length (fields r) ≡ 3) × Each Numeral (fields r)
 
 -- The constraint that a record of that form spells.
 abbrev pub constraintOf : Bytes → Constraint
-constraintOf r = triple (value (getD (fields r) 0 [])) (value (getD (fields r) 1 [])) (value (getD (fields r) 2 []))
+constraintOf r = constraint (value (getD (fields r) 0 [])) (value (getD (fields r) 1 [])) (value (getD (fields r) 2 []))
 
 -- The largest least and most that a text may name.
 abbrev pub messageLimit : ℕ

@@ -9,7 +9,7 @@ ghost use Rattle.curves.specs.Pairs.{pairOf};
 ghost use Rattle.closure.specs.Closing.{closing};
 ghost use Rattle.constraints.specs.Reading.{reading};
 ghost use Rattle.report.specs.Report as report;
-ghost use Rattle.scripts.specs.Scripts.{answered, judgedScript, sentScript};
+ghost use Rattle.scripts.specs.Scripts.{scriptAnswer, judgedScript, sentScript};
 ghost use Rattle.exports.specs.Boundary.{returned, closingReturned, readingReturned, reportReturned, reportInto};
 ghost use Rattle.exports.specs.Steps.{closingCode, readingCode};
 
@@ -98,7 +98,7 @@ fn copy_bytes(from: &[u8], to: &mut [u8])
 // `scripts::judge_script`.
 #[no_mangle]
 pub extern "C" fn calgedze_judge(upper: &[u32], lower: &[u32], script: &mut [u32]) -> u32
-    ensures { λ r. ⌜ answered r (now (script .exit))
+    ensures { λ r. ⌜ scriptAnswer r (now (script .exit))
         ≡ judgedScript (pairOf (now (upper .entry)) (now (lower .entry))) (now (script .entry)) ⌝ }
 {
     scripts::judge_script(upper, lower, script)
@@ -107,7 +107,7 @@ pub extern "C" fn calgedze_judge(upper: &[u32], lower: &[u32], script: &mut [u32
 // `scripts::generate_script`.
 #[no_mangle]
 pub extern "C" fn calgedze_generate(upper: &[u32], lower: &[u32], script: &mut [u32]) -> u32
-    ensures { λ r. ⌜ answered r (now (script .exit))
+    ensures { λ r. ⌜ scriptAnswer r (now (script .exit))
         ≡ sentScript (pairOf (now (upper .entry)) (now (lower .entry))) (now (script .entry)) ⌝ }
 {
     scripts::generate_script(upper, lower, script)

@@ -19,7 +19,7 @@ use Rattle.generator.specs.declared.Limits.{Limits}
 use Rattle.generator.specs.Generating.{chosen, ranging, sending}
 use Rattle.generator.specs.Answers.{rangeReply, sendingReply}
 use Rattle.generator.specs.Steps.{Limited, Small, Shows, ChoosesWhere, AddsSent}
-use Rattle.generator.proofs.Said.{ends, ranging-none, ranging-range, ranging-from, count-limited, chosen-within, sent-from}
+use Rattle.generator.proofs.Said.{range-answer, ranging-none, ranging-range, ranging-from, count-limited, chosen-within, sent-from}
 
 module _ (us ls xs : List ℕ) where
   abbrev p : Pair
@@ -104,11 +104,11 @@ module _ (us ls xs : List ℕ) where
 
 -- ---- the count that a choice leads to
 -- The definition divides by the same number, written as a successor.
-pub chosen-is : (lo hi choice : ℕ) → lo + choice % (hi - lo + 1) ≡ chosen (ends lo hi) choice
+pub chosen-is : (lo hi choice : ℕ) → lo + choice % (hi - lo + 1) ≡ chosen (range-answer lo hi) choice
 chosen-is lo hi choice = ap (λ k. lo + choice % k) (add-one (hi - lo))
 
 pub chosen-below : (lo hi choice : ℕ) → lo ≤ hi → lo + choice % (hi - lo + 1) ≤ hi
-chosen-below lo hi choice h = omega (arith, chosen-is lo hi choice, chosen-within (ends lo hi) choice h .1)
+chosen-below lo hi choice h = omega (arith, chosen-is lo hi choice, chosen-within (range-answer lo hi) choice h .1)
 
 -- ---- what the range answers
 module _ (v : View) (L : Legal v) (l : Limits) (b : Limited v l) where
@@ -122,7 +122,7 @@ module _ (v : View) (L : Legal v) (l : Limits) (b : Limited v l) where
   pub shown-range : (a : Admissible) → Shows l a → rangeReply a ≡ ranging v
   unfolding range-from
   shown-range (admissible.Range lo hi) (some, is-lo, is-hi) =
-      (λ i. result (ends (is-lo i) (is-hi i)))
+      (λ i. result (range-answer (is-lo i) (is-hi i)))
       ∙ sym (ranging-range v L (range-from (v .pair) (v .held) (l .lo) (l .end) b some))
   shown-range admissible.BadState s = absurd s
   shown-range admissible.NoCount none = sym (ranging-none v L (no-range (v .pair) (v .held) (l .lo) (l .end) b none))
@@ -130,7 +130,7 @@ module _ (v : View) (L : Legal v) (l : Limits) (b : Limited v l) where
 -- A range that is shown has a count, and none above the limit.
 pub chooses-where : (v : View) (a : Admissible) → rangeReply a ≡ ranging v → ChoosesWhere a
 chooses-where v (admissible.Range lo hi) e =
-    let (l, shown) = ranging-from v (ends lo hi) (sym e) in
+    let (l, shown) = ranging-from v (range-answer lo hi) (sym e) in
     let (r, is) = shown in
     let a : r .lo ≡ lo = ap (λ b. b .lo) is in
     let c : r .hi ≡ hi = ap (λ b. b .hi) is in

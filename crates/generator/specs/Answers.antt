@@ -5,9 +5,9 @@ use Rattle.generator.specs.declared.Admissible.{Admissible}
 use Rattle.generator.specs.declared.Admissible.the-variants as admissible
 use Rattle.generator.specs.declared.Sending.{Sending}
 use Rattle.generator.specs.declared.Sending.the-variants as sending
-use Rattle.generator.specs.Generating.{Ends}
+use Rattle.generator.specs.Generating.{RangeAnswer}
 
-abbrev pub rangeReply : Admissible → Reply Ends
+abbrev pub rangeReply : Admissible → Reply RangeAnswer
 rangeReply (admissible.Range l h) = result (record { lo = l; hi = h })
 rangeReply admissible.BadState = refusal 12
 rangeReply admissible.NoCount = refusal 13

@@ -16,19 +16,19 @@ abbrev pub rangeQuestions : View → List Question
 rangeQuestions v = question12 v ∷ question13 v ∷ []
 
 -- The smallest and the largest count that can be sent.
-pub record Ends : Type 0 where
+pub record RangeAnswer : Type 0 where
   pub lo : ℕ
   pub hi : ℕ
 
 -- What asking for the range answers.
-unfoldable pub ranging : View → Reply Ends
+unfoldable pub ranging : View → Reply RangeAnswer
 ranging v = replyTo (rangeQuestions v) (λ yeses. let r : Range (v .pair) (v .held) = yeses .1 .0 in record { lo = r .lo; hi = r .hi })
 
 -- The count that a choice leads to: lo and the remainder of the choice by hi − lo + 1.
-abbrev pub chosen : Ends → ℕ → ℕ
+abbrev pub chosen : RangeAnswer → ℕ → ℕ
 chosen b choice = b .lo + choice % suc (b .hi - b .lo)
 
-abbrev pub sentFrom : Reply Ends → ℕ → Reply ℕ
+abbrev pub sentFrom : Reply RangeAnswer → ℕ → Reply ℕ
 sentFrom (result b) choice = result (chosen b choice)
 sentFrom (refusal n) choice = refusal n
 

@@ -1,6 +1,7 @@
 // The generator (document 01's maker): sends, tick after tick, a count that keeps every window that ends there.
 
 use history::History;
+use history::Legality;
 use history::Opening;
 ghost use mathlib.Core.Path.{_≡_};
 ghost use Prim.Native.Nat.{min, max, _-_};
@@ -77,9 +78,9 @@ impl Generator {
     pub fn range(self) -> Admissible
         ensures { λ r. ⌜ GeneratorRanged self r ⌝ }
     {
-        if !self.history.is_legal() {
+        let Legality::Legal = self.history.legality() else {
             return Admissible::BadState;
-        }
+        };
         range_of(find_limits(self.history))
     }
 }

@@ -16,7 +16,7 @@ use Rattle.history.specs.States.{View, Legal}
 use Rattle.history.specs.Opening.{opening, fresh}
 use Rattle.generator.specs.Generating.{ranging, sending}
 use Rattle.generator.specs.Calls.{viewAfter, sendings, ticked, ranged}
-use Rattle.generator.proofs.Said.{ends, ranging-range, ranging-none, ranging-from, count-limited, chosen-within, sent-from}
+use Rattle.generator.proofs.Said.{range-answer, ranging-range, ranging-none, ranging-from, count-limited, chosen-within, sent-from}
 use Rattle.generator.proofs.Said.{generator-next}
 use Rattle.guarantees.specs.Exact.{PassesCount, SmallestAndLargest, SendsIffPasses, NoCountIffNonePasses, RangeShowsExtremes}
 use Rattle.guarantees.specs.Exact.{SendsConforming, EqualGeneratorsAgree, EqualGeneratorsRange, CallsAreSendings}
@@ -42,7 +42,7 @@ module _ (v : View) (l : Legal v) where
       let (b, s, c) = sent-from v choice x e in
       let (l′, (r, f)) = ranging-from v b s in
       rw (← c, ← f)
-      (range-whole (v .pair) (v .held) r _ .1 (chosen-within (ends (r .lo) (r .hi)) choice (r .largest (r .lo) (r .lo-keeps))))
+      (range-whole (v .pair) (v .held) r _ .1 (chosen-within (range-answer (r .lo) (r .hi)) choice (r .largest (r .lo) (r .lo-keeps))))
 
 pub sends-iff-passes : SendsIffPasses
 sends-iff-passes v l x = (

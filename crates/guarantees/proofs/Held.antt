@@ -4,10 +4,9 @@ use lib.Seq.{drop-nil}
 use Rattle.curves.specs.Pairs.{Pair, horizon}
 use Rattle.curves.specs.Ticks.{then, newest}
 use Rattle.curves.specs.Questions.{result}
-use Rattle.curves.proofs.Asked.{result-from}
 use Rattle.curves.proofs.Verdicts.{length-newest, then-newest, newest-newest}
 use Rattle.history.specs.States.{View, added, Legal}
-use Rattle.bounds.specs.Bounds.{pairQuestions}
+use Rattle.bounds.proofs.Said.{yes-from}
 use Rattle.history.specs.Opening.{opening, fresh}
 
 -- The state after the stream xs.
@@ -24,12 +23,10 @@ held-added p xs x =
     (ap (newest n) (then-newest n xs x) ∙ newest-newest (suc n) (then xs x) n (omega arith))
 
 pub held-legal : (p : Pair) → opening p ≡ result tt → (xs : List ℕ) → Legal (heldOf p xs)
-unfolding opening
 held-legal p o xs =
-    let (ys, e) = result-from (pairQuestions p) _ tt o in
+    let ys = yes-from p o in
     let fewer : length (newest (horizon p - 1) xs) < horizon p = omega (arith, length-newest (horizon p - 1) xs, ys .0 .0) in
     record { lengths = ys .0; figures = ys .1 .1 .0; fewer = fewer }
 
 pub opened-positive : (p : Pair) → opening p ≡ result tt → 1 ≤ horizon p
-unfolding opening
-opened-positive p o = result-from (pairQuestions p) _ tt o .0 .0 .0
+opened-positive p o = yes-from p o .0 .0

@@ -28,6 +28,7 @@ use Rattle.constraints.specs.Reading.{later, horizonOf, textPair, question6, re
 use Rattle.constraints.proofs.Said.{pair-iff-all-yes, given-is-text-pair}
 use Rattle.history.specs.States.{legal?}
 use Rattle.bounds.specs.Bounds.{pairQuestions}
+use Rattle.bounds.proofs.Said.{asking-yes}
 use Rattle.history.specs.Opening.{opening, fresh}
 use Rattle.monitor.specs.Monitoring.{judged, judging}
 use Rattle.monitor.specs.Calls.{rulings}
@@ -46,8 +47,8 @@ unfolding opens?
 opens p found t u l = let ys = left (ask (pairQuestions p)) t in (ys .0, (ys .1 .0, ((u, l), (ys .1 .1 .0, tt))))
 
 opened : (p : Pair) → T (opens? p) → opening p ≡ result tt
-unfolding opens? opening
-opened p t = said-yes (pairQuestions p) _ refusal (result tt) (left (ask (pairQuestions p)) t) (λ ys. refl)
+unfolding opens?
+opened p t = sym (asking-yes p (left (ask (pairQuestions p)) t))
 
 -- Questions 6 to 10, likewise.
 abbrev textQuestions : Bytes → List Question

@@ -1,33 +1,31 @@
 -- Demand 3, its last two sentences: a generator on a closure is opened and is never refused, over any list of calls. Assumes nothing.
-use Rattle.laws.proofs.Base.{ℕ, _-_, _≡_, refl, _∙_, subst, List, [], _∷_, _++_, append-assoc, append-nil, arith}
+use Rattle.laws.proofs.Base.{ℕ, _-_, _≡_, sym, _∙_, subst, List, [], _∷_, _++_, append-assoc, append-nil, arith}
 use mathlib.Core.Logic.{Iff·trans, Iff·symm}
 use Rattle.laws.specs.Tests.{Each}
 use Rattle.curves.specs.Pairs.{Pair, horizon}
 use Rattle.curves.specs.Conformance.{Conforms}
 use Rattle.curves.specs.Ticks.{then}
 use Rattle.curves.specs.Rounds.{Causal}
-use Rattle.curves.specs.Questions.{result, refusal}
-use Rattle.curves.proofs.Asked.{said-yes}
+use Rattle.curves.specs.Questions.{result}
 use Rattle.curves.proofs.Closure.{one-more-tick}
 use Rattle.curves.proofs.Verdicts.{range-newest}
 use Rattle.closure.specs.Theorems.{GivesClosure, closureOf}
 use Rattle.closure.proofs.Promised.{closure-passes, given-is-causal, conforms-iff-extendable}
 use Rattle.history.specs.States.{View, viewOf}
-use Rattle.bounds.specs.Bounds.{pairQuestions}
+use Rattle.bounds.proofs.Said.{asking-yes}
 use Rattle.history.specs.Opening.{opening, Begun}
 use Rattle.generator.specs.declared.Generator.{Generator}
-use Rattle.generator.specs.Generating.{Ends, ranging, chosen, sending}
+use Rattle.generator.specs.Generating.{RangeAnswer, ranging, chosen, sending}
 use Rattle.generator.specs.Answers.{sendingReply}
 use Rattle.generator.specs.Calls.{Call, ticked, ranged, Calls, countsSent}
-use Rattle.generator.proofs.Said.{ends, ranging-range, generator-next}
+use Rattle.generator.proofs.Said.{range-answer, ranging-range, generator-next}
 use Rattle.guarantees.specs.NeverRefused.{OpensOnClosure, NotRefused, NeverRefused, PassesIffExtendable}
 use Rattle.guarantees.proofs.Held.{heldOf, held-fresh, held-legal, opened-positive}
 use Rattle.guarantees.proofs.Monitoring.{conforms-iff-all-pass}
 use Rattle.guarantees.proofs.Generating.{sent-on, sent-conforms}
 
 closure-opens : (p found : Pair) → GivesClosure p found → opening (closureOf p found) ≡ result tt
-unfolding opening
-closure-opens p found g = said-yes (pairQuestions (closureOf p found)) _ refusal (result tt) (closure-passes p found g) (λ ys. refl)
+closure-opens p found g = sym (asking-yes (closureOf p found) (closure-passes p found g))
 
 pub opens-on-closure : OpensOnClosure
 opens-on-closure p found g o a = a .answer ∙ closure-opens p found g
@@ -35,11 +33,11 @@ opens-on-closure p found g o a = a .answer ∙ closure-opens p found g
 -- ---- on a causal pair
 module _ (q : Pair) (o : opening q ≡ result tt) (causal : Causal q) where
   -- A conforming stream can go on, so a range is shown, of which a tick sends a count.
-  shows : (v : View) (ys : List ℕ) → v ≡ heldOf q ys → Conforms q ys → (b : Ends) × (ranging v ≡ result b)
+  shows : (v : View) (ys : List ℕ) → v ≡ heldOf q ys → Conforms q ys → (b : RangeAnswer) × (ranging v ≡ result b)
   shows v ys s c =
       let h = opened-positive q o in
       let r = range-newest q (horizon q - 1) ys (omega arith) (one-more-tick q ys h causal c .0) in
-      (ends (r .lo) (r .hi), rw s (ranging-range (heldOf q ys) (held-legal q o ys) r))
+      (range-answer (r .lo) (r .hi), rw s (ranging-range (heldOf q ys) (held-legal q o ys) r))
 
   -- From the stream ys on.
   never : (cs : List Call) (ys : List ℕ) (g : Generator) → viewOf (g .history) ≡ heldOf q ys → Conforms q ys → Calls g cs

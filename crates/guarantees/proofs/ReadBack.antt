@@ -13,7 +13,7 @@ use Rattle.csv.specs.Text.{Bytes, comma, cr, crlf, header, records, fields}
 use Rattle.csv.specs.Numbers.{Digit, decimal}
 use Rattle.csv.proofs.Joining.{records-join, fields-join, fields-last}
 use Rattle.csv.proofs.Numbers.{value-decimal, decimal-digits, numeral-decimal}
-use Rattle.csv.specs.Records.{Constraint, WellFormed, triple, constraintOf, messageLimit}
+use Rattle.csv.specs.Records.{Constraint, WellFormed, constraint, constraintOf, messageLimit}
 use Rattle.constraints.specs.Constraints.{named, smallestMost, filled}
 use Rattle.constraints.specs.Reading.{later, constraints, horizonOf, textPair, recordQuestions, question10, question11, readingQuestions}
 use Rattle.constraints.proofs.Named.{named-own, one-more, window-largest, largest-le}
@@ -44,7 +44,7 @@ row-fields w l m =
       fields-last (decimal m) (no-comma m),
     )
 
-row-constraint : (w l m : ℕ) → constraintOf (row w l m) ≡ triple w l m
+row-constraint : (w l m : ℕ) → constraintOf (row w l m) ≡ constraint w l m
 row-constraint w l m = simp (row-fields, value-decimal)
 
 row-formed : (w l m : ℕ) → w ≤ 99_999 → l ≤ 99_999 → m ≤ 99_999 → WellFormed (row w l m)
@@ -63,7 +63,7 @@ module _ (p : Pair) where
   rowOf d = row d (lowerAt p d) (upperAt p d)
 
   abbrev tripleOf : ℕ → Constraint
-  tripleOf d = triple d (lowerAt p d) (upperAt p d)
+  tripleOf d = constraint d (lowerAt p d) (upperAt p d)
 
   -- The records of the text so far, whatever follows.
   text-records : (n : ℕ) (s : Bytes)

@@ -4,15 +4,14 @@ use mathlib.Core.Logic.{Iff·trans}
 use Rattle.curves.specs.Questions.{Reply, result, refusal}
 use Rattle.curves.proofs.Asked.{refusal-iff}
 use Rattle.history.specs.States.{question12}
-use Rattle.bounds.specs.Bounds.{pairQuestions}
-use Rattle.history.specs.Opening.{opening}
+use Rattle.bounds.specs.Bounds.{pairQuestions, asking}
 use Rattle.monitor.specs.Monitoring.{judging}
-use Rattle.generator.specs.Generating.{rangeQuestions, Ends, ranging, sentFrom}
+use Rattle.generator.specs.Generating.{rangeQuestions, RangeAnswer, ranging, sentFrom}
 use Rattle.guarantees.specs.Total.{OpeningRefused, JudgingRefused, RangingRefused, SendingRefused, RefusedMonitorStays}
 use Rattle.guarantees.specs.Total.{RefusedGeneratorStays}
 
 pub opening-refused : OpeningRefused
-unfolding opening
+unfolding asking
 opening-refused p n = refusal-iff (pairQuestions p) _ n
 
 pub judging-refused : JudgingRefused
@@ -26,7 +25,7 @@ ranging-refused v n = refusal-iff (rangeQuestions v) _ n
 pub sending-refused : SendingRefused
 sending-refused v choice n = Iff·trans (there (ranging v), λ e. rw e) (ranging-refused v n)
   where
-    there : (a : Reply Ends) → sentFrom a choice ≡ refusal n → a ≡ refusal n
+    there : (a : Reply RangeAnswer) → sentFrom a choice ≡ refusal n → a ≡ refusal n
     there (result b) e = cc
     there (refusal k) e = cc
 

@@ -21,7 +21,7 @@ use Rattle.monitor.specs.Calls.{afterTicks, rulings, Tick, Ticks}
 use Rattle.generator.specs.declared.Generator.{Generator}
 use Rattle.generator.specs.declared.Admissible.{Admissible}
 use Rattle.generator.specs.declared.Sent.{Sent}
-use Rattle.generator.specs.Generating.{Ends, ranging, sending, EqualGenerators}
+use Rattle.generator.specs.Generating.{RangeAnswer, ranging, sending, EqualGenerators}
 use Rattle.generator.specs.Answers.{rangeReply, sendingReply}
 use Rattle.generator.specs.Promises.{GeneratorTicked, GeneratorRanged}
 use Rattle.generator.specs.Calls.{sendings, Call, Calls, choicesOf, repliesOf}
@@ -80,14 +80,14 @@ NoCountIffNonePasses =
     × ((choice : ℕ) → (sending v choice ≡ refusal 13) ↔ ((x : ℕ) → ¬ PassesCount v x))
 
 -- The range shows the smallest and the largest that it would pass.
-pub record SmallestAndLargest (v : View) (b : Ends) : Type 0 where
+pub record SmallestAndLargest (v : View) (b : RangeAnswer) : Type 0 where
   pub lo-passes : PassesCount v (b .lo)
   pub hi-passes : PassesCount v (b .hi)
   pub smallest : (x : ℕ) → PassesCount v x → b .lo ≤ x
   pub largest : (x : ℕ) → PassesCount v x → x ≤ b .hi
 
 abbrev pub RangeShowsExtremes : Type 0
-RangeShowsExtremes = (v : View) → Legal v → (b : Ends) → (ranging v ≡ result b) ↔ SmallestAndLargest v b
+RangeShowsExtremes = (v : View) → Legal v → (b : RangeAnswer) → (ranging v ≡ result b) ↔ SmallestAndLargest v b
 
 -- From fresh openings the lists of counts that can be sent are the conforming ones.
 abbrev pub SendsConforming : Type 0

@@ -7,12 +7,12 @@ use Rattle.laws.specs.Tests.{Each}
 use Rattle.curves.specs.Pairs.{Pair, pairOf, horizon, Equal}
 use Rattle.curves.specs.Conformance.{Conforms}
 use Rattle.curves.specs.Questions.{Reply, result, refusal}
-use Rattle.closure.specs.Closing.{refusedClosing, closed, closing}
+use Rattle.closure.specs.Closing.{refusedClosing, givenClosing, closing}
 use Rattle.csv.specs.Text.{Bytes, comma, crlf, header}
 use Rattle.constraints.specs.Theorems.{GivesPair, givenPair}
 use Rattle.history.specs.States.{View}
 use Rattle.history.specs.Opening.{opening, fresh}
-use Rattle.generator.specs.Generating.{Ends, ranging, sentFrom, sending}
+use Rattle.generator.specs.Generating.{RangeAnswer, ranging, sentFrom, sending}
 use Rattle.generator.specs.Calls.{addedAll}
 
 -- `3,0,3` and `5,5,9` below the header line.
@@ -27,14 +27,14 @@ pub data Case : Type 0 where
   -- Closing the pair is refused with 5.
   refuses : Pair → Case
   -- The start conforms to the pair; a generator that was opened on the pair and has sent the start shows this range, or is refused so.
-  goesOn : Pair → List ℕ → Reply Ends → Case
+  goesOn : Pair → List ℕ → Reply RangeAnswer → Case
 
 -- What a case says, whatever result lists of at least H entries hold.
 abbrev pub CaseHolds : Case → Type 0
 CaseHolds (reads t q) =
     (found : Pair) → horizon q ≤ length (found .upper) → horizon q ≤ length (found .lower) → GivesPair t found × Equal (givenPair t found) q
 CaseHolds (closes p n q) =
-    (found : Pair) → horizon p ≤ length (found .upper) → horizon p ≤ length (found .lower) → closing p found ≡ closed n q found
+    (found : Pair) → horizon p ≤ length (found .upper) → horizon p ≤ length (found .lower) → closing p found ≡ givenClosing n q found
 CaseHolds (refuses p) =
     (found : Pair) → horizon p ≤ length (found .upper) → horizon p ≤ length (found .lower) → closing p found ≡ refusedClosing 5 found
 CaseHolds (goesOn p xs a) =

@@ -11,7 +11,7 @@ use Rattle.curves.specs.Questions.{result}
 use Rattle.closure.specs.Theorems.{GivesClosure, closureOf}
 use Rattle.history.specs.Answers.{openingReply}
 use Rattle.generator.specs.declared.OpenedGenerator.{OpenedGenerator}
-use Rattle.generator.specs.Generating.{Ends}
+use Rattle.generator.specs.Generating.{RangeAnswer}
 use Rattle.generator.specs.Answers.{rangeReply, sendingReply}
 use Rattle.generator.specs.Promises.{GeneratorOpened}
 use Rattle.generator.specs.Calls.{Call, ticked, ranged, Calls, countsSent}
@@ -25,7 +25,7 @@ OpensOnClosure =
 
 abbrev pub NotRefused : Call → Type 0
 NotRefused (ticked choice r) = (x : ℕ) × (sendingReply (r .sending) ≡ result x)
-NotRefused (ranged r) = (b : Ends) × (rangeReply r ≡ result b)
+NotRefused (ranged r) = (b : RangeAnswer) × (rangeReply r ≡ result b)
 
 -- From there no call of any list is refused, and the counts sent begin an unbounded stream that conforms to the pair.
 abbrev pub NeverRefused : Type 0

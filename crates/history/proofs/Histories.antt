@@ -10,12 +10,12 @@ use Rattle.lists.proofs.Whole.{beginning}
 use Rattle.laws.specs.Ranges.{table}
 use Rattle.laws.proofs.Table.{length-table, getD-table}
 use Rattle.curves.specs.Pairs.{Pair, figure, pairOf, horizon}
-use Rattle.curves.specs.Questions.{AllYes, FirstNo, result, refusal}
-use Rattle.curves.proofs.Asked.{said-no, said-yes, result-from}
-use Rattle.bounds.specs.Bounds.{Bounded, maxHorizon, question4, pairQuestions}
+use Rattle.curves.specs.Questions.{AllYes}
+use Rattle.bounds.specs.Bounds.{Bounded, maxHorizon, question4, pairQuestions, asking}
 use Rattle.bounds.specs.declared.Asked.{Asked}
 use Rattle.bounds.specs.declared.Asked.the-variants.{Passes, UpperLength, LowerLength, FigureLimit}
-use Rattle.bounds.specs.Answers.{Found}
+use Rattle.bounds.specs.Answers.{askedReply}
+use Rattle.bounds.proofs.Said.{yes-from}
 use Rattle.history.specs.declared.History.{History}
 use Rattle.history.specs.declared.Opening.{Opening}
 use Rattle.history.proofs.Opening.{the-type}
@@ -24,7 +24,7 @@ use Rattle.history.specs.declared.Opening.the-variants as opening
 use Rattle.history.specs.States.{Legal, viewOf, entries}
 use Rattle.history.specs.Opening.{opening, fresh, zeroHistory, Begun}
 use Rattle.history.specs.Answers.{openingReply}
-use Rattle.history.specs.Steps.{openingFor, paddedTo, Room, viewWith}
+use Rattle.history.specs.Steps.{openingFor, paddedTo, viewWith}
 
 -- ---- a view of a state
 -- The entries that count are a part of the array, where it has them.
@@ -36,6 +36,11 @@ entries-take n xs h =
     let l′ : i < n = (rw length-table at l) in
     getD-table (figure 0 xs) n i 0 l′ ∙ sym (getD-take n xs i 0 l′))
 
+-- The horizon is at most 256, and fewer ticks are held: what question 12 asks of the two numbers.
+pub record Sizes (h : History) : Type 0 where
+  pub within : h .horizon ≤ maxHorizon
+  pub fewer : h .held < h .horizon
+
 module _ (s : History) where
   -- A view has as many figures and held ticks as the two fields say.
   pub horizon-seen : horizon (viewOf s .pair) ≡ s .horizon
@@ -44,9 +49,8 @@ module _ (s : History) where
   held-seen : length (viewOf s .held) ≡ s .held
   held-seen = length-table (figure 0 (s .ticks)) (s .held)
 
-  -- Question 12 leaves room for a tick.
-  pub legal-room : Legal (viewOf s) → Room s
-  legal-room l =
+  pub legal-sizes : Legal (viewOf s) → Sizes s
+  legal-sizes l =
       record { within = omega (arith, horizon-seen, l .lengths .1); fewer = omega (arith, horizon-seen, held-seen, l .fewer) }
 
   -- And of the figures, where the arrays have one for each window up to the horizon.
@@ -64,7 +68,7 @@ module _ (s : History) where
     legal-bounded l = subst (λ (p : Pair). question4 p .asked) pair-seen (l .figures)
 
     pub bounded-legal
-        : Room s → Bounded uppers × Bounded lowers → Legal (viewOf s)
+        : Sizes s → Bounded uppers × Bounded lowers → Legal (viewOf s)
     bounded-legal r b =
         record {
           lengths = (omega (arith, horizon-seen), omega (arith, horizon-seen));
@@ -97,22 +101,15 @@ zero-history-is us ls xs u l x = λ i. freshHistory 0 (u i) (l i) (x i)
 
 -- ---- the answer of an opening
 module _ (p : Pair) where
-  -- The first question that is answered no settles it.
-  no-at : (n : ℕ) → FirstNo (pairQuestions p) n → refusal n ≡ opening p
-  unfolding opening
-  no-at n f = sym (said-no (pairQuestions p) _ _ n f)
-
-  pub answers : (a : Asked) → Found p a → openingReply (openingFor a) ≡ opening p
-  unfolding opening
-  answers Passes ys = sym (said-yes (pairQuestions p) _ _ (result tt) ys (λ _. refl))
-  answers UpperLength f = no-at 1 f
-  answers LowerLength f = no-at 2 f
-  answers FigureLimit f = no-at 4 f
+  pub answers : (a : Asked) → askedReply a ≡ asking p → openingReply (openingFor a) ≡ opening p
+  answers Passes e = e
+  answers UpperLength e = e
+  answers LowerLength e = e
+  answers FigureLimit e = e
 
   -- Where it is not refused, all are answered yes.
   pub opened-yes : (o : Opening) → o ≡ Opened → openingReply o ≡ opening p → AllYes (pairQuestions p)
-  unfolding opening
-  opened-yes o k e = result-from (pairQuestions p) (λ _. tt) tt (sym e ∙ ap openingReply k) .0
+  opened-yes o k e = yes-from p (sym e ∙ ap openingReply k)
 
 -- The history that is handed out, in the arm where it is not refused, and in the one for all else.
 module _ (p : Pair) (h : History) (o : Opening) (e : openingReply o ≡ opening p) where

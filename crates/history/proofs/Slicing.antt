@@ -11,7 +11,7 @@ use Rattle.lists.specs.Pushing.{behind, heldWith, Pushed}
 use Rattle.history.specs.declared.History.{History}
 use Rattle.history.specs.States.{View, entries, viewOf, added, Legal}
 use Rattle.history.specs.Steps.{Slices, viewWith}
-use Rattle.history.proofs.Histories.{entries-take, entries-padded, horizon-seen, legal-room}
+use Rattle.history.proofs.Histories.{entries-take, entries-padded, horizon-seen, legal-sizes}
 
 -- How long the arrays are.
 pub record Arrays (h : History) : Type 0 where
@@ -22,13 +22,13 @@ pub record Arrays (h : History) : Type 0 where
 module _ (h : History) (A : Arrays h) (L : Legal (viewOf h)) where
   -- The arrays have as many entries as are sliced off.
   pub upper-room : h .horizon ≤ length (h .upper)
-  upper-room = omega (arith, A .uppers, legal-room h L .within)
+  upper-room = omega (arith, A .uppers, legal-sizes h L .within)
 
   pub lower-room : h .horizon ≤ length (h .lower)
-  lower-room = omega (arith, A .lowers, legal-room h L .within)
+  lower-room = omega (arith, A .lowers, legal-sizes h L .within)
 
   pub ticks-room : h .held ≤ length (h .ticks)
-  ticks-room = omega (arith, A .held, legal-room h L .within, legal-room h L .fewer)
+  ticks-room = omega (arith, A .held, legal-sizes h L .within, legal-sizes h L .fewer)
 
   -- So have the slices.
   pub upper-length : h .horizon ≡ length (take (h .horizon) (h .upper))
@@ -44,8 +44,8 @@ module _ (h : History) (A : Arrays h) (L : Legal (viewOf h)) where
   slices =
       record {
         lowers = omega (arith, upper-length, lower-length);
-        within = omega (arith, upper-length, legal-room h L .within);
-        fewer = omega (arith, upper-length, ticks-length, legal-room h L .fewer);
+        within = omega (arith, upper-length, legal-sizes h L .within);
+        fewer = omega (arith, upper-length, ticks-length, legal-sizes h L .fewer);
       }
 
   -- Together they are the view.
@@ -60,10 +60,10 @@ module _ (h : History) (A : Arrays h) (L : Legal (viewOf h)) where
 
   -- ---- a tick more
   pub some-window : 1 ≤ h .horizon
-  some-window = omega (arith, legal-room h L .fewer)
+  some-window = omega (arith, legal-sizes h L .fewer)
 
   pub tick-for-each : h .horizon ≤ length (h .ticks)
-  tick-for-each = omega (arith, A .held, legal-room h L .within)
+  tick-for-each = omega (arith, A .held, legal-sizes h L .within)
 
   -- The places for ticks: one fewer than the horizon.
   abbrev places : List ℕ
@@ -77,7 +77,7 @@ module _ (h : History) (A : Arrays h) (L : Legal (viewOf h)) where
   held-newest x =
       let many : length places ≡ horizon (viewOf h .pair) - 1 = omega (arith, places-length, horizon-seen h) in
       let same : take (h .held) places ≡ entries (h .held) (h .ticks) =
-      take-take (h .held) (h .horizon - 1) (h .ticks) (omega (arith, legal-room h L .fewer))
+      take-take (h .held) (h .horizon - 1) (h .ticks) (omega (arith, legal-sizes h L .fewer))
       ∙ sym (entries-take (h .held) (h .ticks) ticks-room) in
       λ i. newest (many i) (then (same i) x)
 

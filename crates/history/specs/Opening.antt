@@ -3,13 +3,14 @@ use mathlib.Core.Path.{_≡_}
 use mathlib.Core.List.{[]}
 use lib.ListN.{replicate}
 use Rattle.curves.specs.Pairs.{Pair}
-use Rattle.curves.specs.Questions.{Reply, result, refusal, replyTo}
-use Rattle.bounds.specs.Bounds.{maxHorizon, pairQuestions}
+use Rattle.curves.specs.Questions.{Reply, result, refusal}
+use Rattle.bounds.specs.Bounds.{maxHorizon, asking}
 use Rattle.history.specs.declared.History.{History}
 use Rattle.history.specs.States.{View, viewOf}
 
-unfoldable pub opening : Pair → Reply (Unit {0})
-opening p = replyTo (pairQuestions p) (λ yeses. tt)
+-- What an opening answers.
+abbrev pub opening : Pair → Reply (Unit {0})
+opening p = asking p
 
 -- No tick is held yet.
 abbrev pub fresh : Pair → View

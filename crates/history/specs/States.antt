@@ -1,13 +1,13 @@
 -- States (document 01, "Monitor and maker"): the view of one, which is all that is compared and has an effect, and question 12.
 use Prim.Native.Nat.{ℕ, _-_, _<_}
-use mathlib.Core.List.{List}
+use mathlib.Core.List.{List, [], _∷_}
 use mathlib.Core.Logic.{Dec·and}
 use native.Mathlib.Decide.{decLt}
 use lib.ListN.{length}
 use Rattle.laws.specs.Ranges.{table}
 use Rattle.curves.specs.Pairs.{Pair, pairOf, horizon, figure}
 use Rattle.curves.specs.Ticks.{then, newest}
-use Rattle.curves.specs.Questions.{Question}
+use Rattle.curves.specs.Questions.{Question, Reply, replyTo}
 use Rattle.bounds.specs.Bounds.{question1, question4}
 use Rattle.history.specs.declared.History.{History}
 
@@ -47,3 +47,7 @@ legal? v =
 
 abbrev pub question12 : View → Question
 question12 v = record { number = 12; asked = Legal v; answered = legal? v }
+
+-- What asking it answers.
+unfoldable pub legality : View → Reply (Unit {0})
+legality v = replyTo (question12 v ∷ []) (λ _. tt)

@@ -7,7 +7,6 @@ use Rattle.curves.specs.Pairs.{pairOf}
 use Rattle.bounds.specs.Bounds.{maxHorizon}
 use Rattle.bounds.specs.declared.Asked.{Asked}
 use Rattle.bounds.specs.declared.Asked.the-variants as asked
-use Rattle.history.specs.declared.History.{History}
 use Rattle.history.specs.declared.Opening.{Opening}
 use Rattle.history.specs.declared.Opening.the-variants as opening
 use Rattle.history.specs.States.{View}
@@ -22,11 +21,6 @@ openingFor asked.FigureLimit = opening.FigureLimit
 -- Figures at the front of an array, and 0 after them.
 abbrev pub paddedTo : List ℕ → List ℕ
 paddedTo us = us ++ drop (length us) (replicate maxHorizon 0)
-
--- The horizon is at most 256, and fewer ticks are held: what question 12 asks of the two numbers.
-pub record Room (h : History) : Type 0 where
-  pub within : h .horizon ≤ maxHorizon
-  pub fewer : h .held < h .horizon
 
 -- Slices of figures up to the horizon, and of the held ticks.
 pub record Slices (us ls xs : List ℕ) : Type 0 where

@@ -1,17 +1,16 @@
-// What a monitor and a generator hold of a stream (document 01's held ticks): the pair, and the last ticks.
+// What a monitor's and a generator's state have in common: the pair, and the last ticks of the stream (document 01's held ticks).
 
 use bounds::Asked;
 ghost use mathlib.Core.Path.{_≡_};
 ghost use Prim.Native.Nat.{_≤_};
 ghost use lib.ListN.{length, replicate};
-ghost use Rattle.laws.specs.Tests.{Tells};
 ghost use Rattle.curves.specs.Pairs.{pairOf};
 ghost use Rattle.curves.specs.Questions.{AllYes};
 ghost use Rattle.bounds.specs.Bounds.{maxHorizon, pairQuestions};
-ghost use Rattle.history.specs.States.{viewOf, Legal};
+ghost use Rattle.history.specs.States.{viewOf, legality};
 ghost use Rattle.history.specs.Opening.{opening, fresh, zeroHistory, Begun};
-ghost use Rattle.history.specs.Answers.{openingReply};
-ghost use Rattle.history.specs.Promises.{Started};
+ghost use Rattle.history.specs.Answers.{openingReply, legalityReply};
+ghost use Rattle.history.specs.Promises.{HistoryOpened};
 ghost use Rattle.history.specs.Steps.{openingFor, paddedTo};
 
 // The longest horizon.
@@ -41,35 +40,45 @@ pub enum Opening {
 }
 
 // What an opening hands out.
-pub struct Start {
+pub struct OpenedHistory {
     pub opening: Opening,
     pub history: History,
 }
 
+// What asking question 12 finds: every operation on a state asks it first.
+pub enum Legality {
+    Legal,
+    // 12: the horizon is not 1 to 256, a figure is above 16,776,960, or as many ticks are held as the horizon has or more.
+    BadState,
+}
+
 impl History {
     // The history of a stream that has not begun; where the opening is refused, all of it is 0.
-    pub fn open(upper: &[u32], lower: &[u32]) -> Start
-        ensures { λ r. ⌜ Started (pairOf (now (upper .entry)) (now (lower .entry))) r ⌝ }
+    pub fn open(upper: &[u32], lower: &[u32]) -> OpenedHistory
+        ensures { λ r. ⌜ HistoryOpened (pairOf (now (upper .entry)) (now (lower .entry))) r ⌝ }
     {
         let opening = ask_opening(upper, lower);
         let history = begin(opening, upper, lower);
-        Start { opening, history }
+        OpenedHistory { opening, history }
     }
 
     // Question 12.
-    pub fn is_legal(self) -> bool
-        ensures { λ r. ⌜ Tells r (Legal (viewOf self)) ⌝ }
+    pub fn legality(self) -> Legality
+        ensures { λ r. ⌜ legalityReply r ≡ legality (viewOf self) ⌝ }
     {
         let horizon = self.horizon;
         if MAX_HORIZON < horizon {
-            return false;
+            return Legality::BadState;
         }
         if horizon <= self.held {
-            return false;
+            return Legality::BadState;
         }
         let upper = self.upper;
         let lower = self.lower;
-        bounds::within_limit(&upper[..horizon]) & bounds::within_limit(&lower[..horizon])
+        if !(bounds::within_limit(&upper[..horizon]) & bounds::within_limit(&lower[..horizon])) {
+            return Legality::BadState;
+        }
+        Legality::Legal
     }
 }
 

@@ -1,6 +1,7 @@
 // The monitor (document 01's line monitor): judges each tick of a stream by the windows that end there.
 
 use history::History;
+use history::Legality;
 use history::Opening;
 ghost use mathlib.Core.Path.{_≡_};
 ghost use Rattle.curves.specs.Pairs.{pairOf};
@@ -68,9 +69,9 @@ impl Monitor {
 fn find_verdict(history: History, failed: bool, count: u32) -> Verdict
     ensures { λ r. ⌜ verdictReply r ≡ judging (monitorView (viewOf history) failed) count ⌝ }
 {
-    if !history.is_legal() {
+    let Legality::Legal = history.legality() else {
         return Verdict::BadState;
-    }
+    };
     if failed {
         return Verdict::AlreadyFailed;
     }

@@ -4,12 +4,12 @@ use Rattle.laws.proofs.Tests.{each?}
 use Rattle.curves.specs.Questions.{ask, result, refusal}
 use Rattle.csv.specs.Text.{comma, crlf, records, fields}
 use Rattle.csv.specs.Numbers.{valueAfter}
-use Rattle.csv.specs.Records.{triple, firstRecord}
+use Rattle.csv.specs.Records.{constraint, firstRecord}
 use Rattle.csv.proofs.Decisions.{digit?, numeral?, wellFormed?, inRange?}
 use Rattle.records.specs.Recording.{spelt, recording}
 
 -- `12,0,3` and a record after it: 6 bytes spell the first.
-given : recording (firstRecord (49 ∷ 50 ∷ comma ∷ 48 ∷ comma ∷ 51 ∷ crlf ++ (120 ∷ []))) ≡ result (spelt (triple 12 0 3) 6)
+given : recording (firstRecord (49 ∷ 50 ∷ comma ∷ 48 ∷ comma ∷ 51 ∷ crlf ++ (120 ∷ []))) ≡ result (spelt (constraint 12 0 3) 6)
 unfolding recording ask ⊎-map records fields valueAfter each? digit? numeral? wellFormed? inRange? decLe ℕ-discrete Dec·and
 given = refl
 

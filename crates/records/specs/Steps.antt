@@ -9,7 +9,7 @@ use Rattle.records.specs.declared.Number.{Number}
 use Rattle.records.specs.declared.Number.the-variants.{Value, NoNumeral}
 use Rattle.records.specs.declared.Record.{Record}
 use Rattle.records.specs.declared.Record.the-variants.{Spells, Malformed, OutOfRange}
-use Rattle.csv.specs.Records.{triple, InRange}
+use Rattle.csv.specs.Records.{constraint, InRange}
 
 -- CR LF stands at the beginning.
 abbrev pub LineEnd : Bytes → Type 0
@@ -26,9 +26,9 @@ Numbered f NoNumeral = ¬ Numeral f
 
 -- What the figures of a record of n bytes were found to be.
 abbrev pub RangeChecked : ℕ → ℕ → ℕ → ℕ → Record → Type 0
-RangeChecked w l m n (Spells w′ l′ m′ n′) = InRange (triple w l m) × (w′ ≡ w) × (l′ ≡ l) × (m′ ≡ m) × (n′ ≡ n)
+RangeChecked w l m n (Spells w′ l′ m′ n′) = InRange (constraint w l m) × (w′ ≡ w) × (l′ ≡ l) × (m′ ≡ m) × (n′ ≡ n)
 RangeChecked w l m n Malformed = ⊥
-RangeChecked w l m n OutOfRange = ¬ InRange (triple w l m)
+RangeChecked w l m n OutOfRange = ¬ InRange (constraint w l m)
 
 -- What the three fields of a record of n bytes were found to be.
 abbrev pub Numerals : Bytes → Bytes → Bytes → Type 0

@@ -18,7 +18,7 @@ use Rattle.monitor.specs.Monitoring.{MonitorView, monitorView, judged, judging}
 use Rattle.monitor.specs.Answers.{verdictReply}
 use Rattle.monitor.proofs.Said.{judging-bad, judging-failed, ruling-right}
 use Rattle.scripts.specs.Codes.{replyNumber}
-use Rattle.scripts.specs.Scripts.{answered, afterOpening}
+use Rattle.scripts.specs.Scripts.{scriptAnswer, afterOpening}
 use Rattle.scripts.specs.Steps.{NamesWindow}
 
 -- ---- opening
@@ -33,7 +33,7 @@ opened-or-not FigureLimit = inr (λ e. omega arith, refl)
 module _ (o : Opening) (a : Reply (Unit {0})) (told : openingReply o ≡ a) (r : ℕ) (e : r ≡ replyNumber (openingReply o)) where
   -- The state is fresh, and what it answers goes into the script; or the script stays as found.
   pub run-opened : r ≡ 0 → (p : Pair) (h : History) → Begun a p h → (f : View → List ℕ) (found left : List ℕ)
-      → left ≡ f (viewOf h) → answered r left ≡ afterOpening a (f (fresh p)) found
+      → left ≡ f (viewOf h) → scriptAnswer r left ≡ afterOpening a (f (fresh p)) found
   run-opened z p h b f found left is =
       ⊎-elim
       (λ ready.
@@ -42,11 +42,11 @@ module _ (o : Opening) (a : Reply (Unit {0})) (told : openingReply o ≡ a) (r :
       (λ (n, _). absurd (n (sym e ∙ z)))
       (opened-or-not o)
 
-  pub run-refused : ¬ (r ≡ 0) → (answers found left : List ℕ) → left ≡ found → answered r left ≡ afterOpening a answers found
+  pub run-refused : ¬ (r ≡ 0) → (answers found left : List ℕ) → left ≡ found → scriptAnswer r left ≡ afterOpening a answers found
   run-refused n answers found left is =
       ⊎-elim
       (λ ready. absurd (n (e ∙ ap replyNumber ready)))
-      (λ (_, no-one). (λ i. answered (e i) (is i)) ∙ ap (λ k. afterOpening k answers found) (sym no-one ∙ told))
+      (λ (_, no-one). (λ i. scriptAnswer (e i) (is i)) ∙ ap (λ k. afterOpening k answers found) (sym no-one ∙ told))
       (opened-or-not o)
 
 -- ---- verdicts

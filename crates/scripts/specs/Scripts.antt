@@ -10,20 +10,20 @@ use Rattle.monitor.specs.Calls.{rulings}
 use Rattle.generator.specs.Calls.{sendings}
 use Rattle.scripts.specs.Codes.{rulingCode, sendingCode}
 
-pub record Answered : Type 0 where
+pub record ScriptAnswer : Type 0 where
   pub number : ℕ
   pub entries : List ℕ
 
-abbrev pub answered : ℕ → List ℕ → Answered
-answered r left = record { number = r; entries = left }
+abbrev pub scriptAnswer : ℕ → List ℕ → ScriptAnswer
+scriptAnswer r left = record { number = r; entries = left }
 
 -- The answers to the calls; or the opening's refusal, and then the script as found.
-abbrev pub afterOpening : Reply (Unit {0}) → List ℕ → List ℕ → Answered
-afterOpening (result _) answers found = answered 0 answers
-afterOpening (refusal n) answers found = answered n found
+abbrev pub afterOpening : Reply (Unit {0}) → List ℕ → List ℕ → ScriptAnswer
+afterOpening (result _) answers found = scriptAnswer 0 answers
+afterOpening (refusal n) answers found = scriptAnswer n found
 
-abbrev pub judgedScript : Pair → List ℕ → Answered
+abbrev pub judgedScript : Pair → List ℕ → ScriptAnswer
 judgedScript p counts = afterOpening (opening p) (map rulingCode (rulings (monitorView (fresh p) false) counts)) counts
 
-abbrev pub sentScript : Pair → List ℕ → Answered
+abbrev pub sentScript : Pair → List ℕ → ScriptAnswer
 sentScript p choices = afterOpening (opening p) (map sendingCode (sendings (fresh p) choices)) choices

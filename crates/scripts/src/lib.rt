@@ -16,7 +16,7 @@ ghost use Rattle.monitor.specs.Calls.{rulings};
 ghost use Rattle.generator.specs.Answers.{sendingReply};
 ghost use Rattle.generator.specs.Calls.{sendings};
 ghost use Rattle.scripts.specs.Codes.{replyNumber, rulingCode, sendingCode};
-ghost use Rattle.scripts.specs.Scripts.{answered, judgedScript, sentScript};
+ghost use Rattle.scripts.specs.Scripts.{scriptAnswer, judgedScript, sentScript};
 ghost use Rattle.scripts.specs.Steps.{NamesWindow};
 
 // Verdicts as entries of a script.
@@ -33,7 +33,7 @@ const REFUSED: u32 = 4_000_000_000;
 
 // A monitor, opened and given the counts of the script. Each is overwritten with its verdict.
 pub fn judge_script(upper: &[u32], lower: &[u32], script: &mut [u32]) -> u32
-    ensures { λ r. ⌜ answered r (now (script .exit))
+    ensures { λ r. ⌜ scriptAnswer r (now (script .exit))
         ≡ judgedScript (pairOf (now (upper .entry)) (now (lower .entry))) (now (script .entry)) ⌝ }
 {
     let opened = Monitor::open(upper, lower);
@@ -77,7 +77,7 @@ fn verdict_code(verdict: Verdict) -> u32
 
 // A generator, opened and given the choices of the script. Each is overwritten with the count that is sent.
 pub fn generate_script(upper: &[u32], lower: &[u32], script: &mut [u32]) -> u32
-    ensures { λ r. ⌜ answered r (now (script .exit))
+    ensures { λ r. ⌜ scriptAnswer r (now (script .exit))
         ≡ sentScript (pairOf (now (upper .entry)) (now (lower .entry))) (now (script .entry)) ⌝ }
 {
     let opened = Generator::open(upper, lower);

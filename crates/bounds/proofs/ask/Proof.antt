@@ -4,6 +4,7 @@ use Rattle.laws.proofs.Base.{Bool, _&&_, refl, inl, inr, arith, needs}
 use Rattle.laws.specs.Tests.{Tells}
 use Rattle.laws.proofs.Tests.{told-yes, told-no, both-told}
 use Rattle.bounds.specs.Bounds.{Bounded}
+use Rattle.bounds.proofs.Said.{asking-yes, asking-no}
 use Rattle.bounds.proofs.ask.Statement.{statement}
 use Rattle.bounds.proofs.ask.Tie as tie
 
@@ -23,20 +24,20 @@ fourth k =
 returns-4 : tie.Need-returns-4
 returns-4 c =
     let above = told-no _ (answer (c .before)) (c .if4 .taken) (fourth (c .before)) in
-    inr ((omega arith, omega arith), inr (omega arith, inl (refl, above)))
+    asking-no _ 4 (inr ((omega arith, omega arith), inr (omega arith, inl (refl, above))))
 
 returns-5 : tie.Need-returns-5
 returns-5 c =
     let within = told-yes _ (answer (c .before)) (c .if4 .left) (fourth (c .before)) in
-    ((omega arith, omega arith), (omega arith, (within, tt)))
+    asking-yes _ ((omega arith, omega arith), (omega arith, (within, tt)))
 
 pub ask-spec : {M : Type 1} → statement M
 ask-spec =
     tie.close
     (tie.spec
-    (λ c. inl (refl, λ y. omega (arith, y .0, c .if1 .taken)))
-    (λ c. inl (refl, λ y. omega (arith, y .1, c .if2 .taken)))
-    (λ c. inr ((omega arith, omega arith), inl (refl, c .if3 .taken)))
+    (λ c. asking-no _ 1 (inl (refl, λ y. omega (arith, y .0, c .if1 .taken))))
+    (λ c. asking-no _ 1 (inl (refl, λ y. omega (arith, y .1, c .if2 .taken))))
+    (λ c. asking-no _ 2 (inr ((omega arith, omega arith), inl (refl, c .if3 .taken))))
     (λ c κs. search needs)
     (λ c κs. search needs)
     returns-4

@@ -3,7 +3,7 @@
 use Rattle.laws.proofs.Base.{_-_, _≡_, sym, ap, _∙_, arith, needs, length, drop}
 use Rattle.curves.specs.Questions.{result}
 use Rattle.csv.specs.Text.{Bytes, records}
-use Rattle.csv.specs.Records.{triple}
+use Rattle.csv.specs.Records.{constraint}
 use Rattle.records.specs.Recording.{spelt, recording}
 use Rattle.records.specs.Answers.{recordReply}
 use Rattle.constraints.proofs.Asking.{Reached, recordAt, record-fits, reached-none, reached-end}
@@ -30,7 +30,7 @@ head k = k .before .before .before .before .before .before
 abbrev Found : tie.After-known-told Inv-loop μ-loop → Type 0
 Found k =
     let (w, (l, (m, (n, _)))) = k .before .window .given .0 in
-    result (spelt (triple w l m) n) ≡ recording (recordAt (text (head k)) (head k .loop .at))
+    result (spelt (constraint w l m) n) ≡ recording (recordAt (text (head k)) (head k .loop .at))
 
 found : (k : tie.After-known-told Inv-loop μ-loop) → Found k
 found k = sym (ap recordReply (k .before .window .given .1)) ∙ k .before .before .before .read-record .ensures

@@ -1,8 +1,8 @@
 -- `generator::Generator::range` meets its promise: question 12 and then the limits of the next count settle what is shown.
 -- Assumes nothing.
 use Rattle.laws.proofs.Base.{sym, needs}
-use Rattle.laws.proofs.Tests.{told-yes, told-no}
 use Rattle.history.specs.States.{viewOf, Legal}
+use Rattle.history.proofs.Said.{legal-from, illegal-from}
 use Rattle.generator.proofs.Said.{ranging-bad}
 use Rattle.generator.proofs.Ranging.{limits-small, shown-range}
 use Rattle.generator.proofs.Generator.range.Statement.{statement}
@@ -10,12 +10,12 @@ use Rattle.generator.proofs.Generator.range.Tie as tie
 
 returns : tie.Need-returns
 returns c =
-    let told = c .before .is-legal .result in
-    sym (ranging-bad _ (told-no _ told (c .if1 .taken) (c .before .is-legal .ensures)))
+    let asked = c .before .before .legality in
+    sym (ranging-bad _ (illegal-from _ (asked .result) (asked .ensures) (c .enum-told2 .given .1)))
 
 -- Where question 12 is answered yes, the state has its form.
-legal : (e : tie.Else1) → Legal (viewOf (e .before .before .args .self .history))
-legal e = let told = e .before .is-legal .result in told-yes _ told (e .if1 .left) (e .before .is-legal .ensures)
+legal : (t : tie.After-enum-told) → Legal (viewOf (t .before .before .before .args .self .history))
+legal t = let asked = t .before .before .legality in legal-from _ (asked .result) (asked .ensures) (t .enum-told .given .1)
 
 returns-2 : tie.Need-returns-2
 returns-2 c =
@@ -28,6 +28,8 @@ range-spec =
     tie.close
     (tie.spec
     (λ c κs. search needs)
+    (λ c. search needs)
+    (λ c. search needs)
     returns
     (λ c κs. legal c)
     (λ c κs. limits-small _ (legal (c .before)) _ (c .find-limits .ensures))

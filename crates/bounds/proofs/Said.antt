@@ -1,0 +1,39 @@
+-- What `asking` says, case by case: all questions are answered yes, or one is the first that is answered no. Assumes nothing.
+use Rattle.laws.proofs.Base.{ℕ, _≡_, refl, sym}
+use Rattle.curves.specs.Pairs.{Pair}
+use Rattle.curves.specs.Questions.{AllYes, FirstNo, result, refusal}
+use Rattle.curves.proofs.Asked.{said-no, said-yes, refusal-iff, result-from}
+use Rattle.bounds.specs.declared.Asked.{Asked}
+use Rattle.bounds.specs.declared.Asked.the-variants.{Passes, UpperLength, LowerLength, FigureLimit}
+use Rattle.bounds.specs.Bounds.{pairQuestions, asking}
+use Rattle.bounds.specs.Answers.{askedReply}
+
+module _ (p : Pair) where
+  pub asking-yes : AllYes (pairQuestions p) → result tt ≡ asking p
+  unfolding asking
+  asking-yes ys = sym (said-yes (pairQuestions p) _ _ (result tt) ys (λ _. refl))
+
+  pub asking-no : (n : ℕ) → FirstNo (pairQuestions p) n → refusal n ≡ asking p
+  unfolding asking
+  asking-no n f = sym (said-no (pairQuestions p) _ _ n f)
+
+  pub yes-from : asking p ≡ result tt → AllYes (pairQuestions p)
+  unfolding asking
+  yes-from e = result-from (pairQuestions p) _ tt e .0
+
+  pub no-from : (n : ℕ) → asking p ≡ refusal n → FirstNo (pairQuestions p) n
+  unfolding asking
+  no-from n e = refusal-iff (pairQuestions p) _ n .0 e
+
+  -- What an answer tells of the questions.
+  abbrev pub Found : Asked → Type 0
+  Found Passes = AllYes (pairQuestions p)
+  Found UpperLength = FirstNo (pairQuestions p) 1
+  Found LowerLength = FirstNo (pairQuestions p) 2
+  Found FigureLimit = FirstNo (pairQuestions p) 4
+
+  pub found : (a : Asked) → askedReply a ≡ asking p → Found a
+  found Passes e = yes-from (sym e)
+  found UpperLength e = no-from 1 (sym e)
+  found LowerLength e = no-from 2 (sym e)
+  found FigureLimit e = no-from 4 (sym e)
