@@ -6,8 +6,8 @@
  * null, not even for no entries, and a list that a call writes overlaps no other list of the call. A pair is two lists of figures, the
  * upper curve (ceilings) and the lower (leasts); entry 0 of each is that of the window of one tick.
  *
- * A call is refused with a number from 1 to 11, and then every list stays as it was. A script's entries are the answers of calls of
- * their own, one for each entry; what one of these is refused with stands in its entry, and the whole call is not refused by it.
+ * A call is refused with a number from 1 to 11, and then every list stays as it was. An entry of a script becomes the answer of one tick;
+ * a tick that is refused has its number in its entry, and the call is not refused for it.
  */
 #ifndef CALGEDZE_H
 #define CALGEDZE_H
@@ -61,32 +61,33 @@ calgedze_answer calgedze_read(const uint8_t *text, size_t text_length, uint32_t 
 size_t calgedze_report(const uint8_t *text, size_t text_length, uint8_t *output, size_t output_length);
 
 /*
- * A script: a monitor, or a generator, is opened on a pair and called once for each entry, in order, each time on the state that the
- * call before it left. What the call gets is the entry, and what it answers takes the entry's place.
+ * A script: a monitor, or a generator, is opened on a pair and has one tick for each entry, in order, each on the state that the tick
+ * before it left. What the tick gets is the entry, and what it answers takes the entry's place.
  */
 
-/* What a monitor answers to a count. The two that name a window are this and the window. */
+/* What a monitor answers to a count. The two that name a window are this plus the window. */
 #define CALGEDZE_PASSED 0u
 #define CALGEDZE_TOO_MANY 1000u
 #define CALGEDZE_TOO_FEW 2000u
 #define CALGEDZE_ALREADY_FAILED 3000u
 
 /*
- * An entry whose call was refused is this and the refusal's number: 13 for a choice where no count keeps every window that ends at the
- * tick, which never happens on the curves of a closure. No other refusal comes up in a script. A count that is sent is at most 16,776,960.
+ * The answer of a tick that is refused is this plus the refusal's number: 13 for a choice where no count keeps every window that ends at
+ * the tick, which never happens on the curves of a closure. No other refusal comes up in a script. A count that is sent is at most
+ * 16,776,960.
  */
 #define CALGEDZE_REFUSED 4000000000u
 
 /*
  * Opens a monitor on the pair of `upper` and `lower` and gives it the counts of `script`. Gives back 0; or 1, 2 or 4, as calgedze_close
- * has them, and then no tick was called and the script stays as it is.
+ * has them, and then there is no tick and the script stays as it is.
  */
 uint32_t calgedze_judge(const uint32_t *upper, size_t upper_length, const uint32_t *lower, size_t lower_length, uint32_t *script,
                         size_t script_length);
 
 /*
  * Opens a generator on the pair of `upper` and `lower` and gives it the choices of `script`. Gives back 0; or 1, 2 or 4, as
- * calgedze_close has them, and then no tick was called and the script stays as it is.
+ * calgedze_close has them, and then there is no tick and the script stays as it is.
  */
 uint32_t calgedze_generate(const uint32_t *upper, size_t upper_length, const uint32_t *lower, size_t lower_length, uint32_t *script,
                            size_t script_length);

@@ -176,8 +176,12 @@ impl Faulty {
 
     pub fn close_into(&self, upper: &[u32], lower: &[u32], closed_upper: &mut [u32], closed_lower: &mut [u32]) -> u64 {
         let number = self.asked(upper, lower, closed_upper.len(), closed_lower.len());
-        if number != 0 || self.has(RefusesAll) {
-            return refused(if number == 0 { 5 } else { number });
+        match (number, self.fault) {
+            (0, RefusesAll) => return refused(5),
+            (0, RefusesAllWithFour) => return refused(4),
+            (3 | 4, ThreeForFour) => return refused(7 - number),
+            (0, _) => {}
+            (_, _) => return refused(number),
         }
         let (figures, rounds, crosses) = self.rounds(upper, lower);
         if !crosses || self.has(ResultsOnRefusal) {

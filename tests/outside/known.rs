@@ -5,6 +5,7 @@ use crate::pairs;
 use crate::random::Rng;
 use crate::reading;
 use crate::reference::Reference;
+use crate::rounds;
 use crate::subject::{refused, shown, Subject, LIMIT, NO_COUNT};
 use crate::tally::Tally;
 
@@ -158,6 +159,17 @@ fn check_text(subject: &dyn Subject, text: &[u8], expected: &[u8]) -> Result<(),
     ))
 }
 
+/// The pair of the long text with a least of 256 in 255 ticks crosses after eight rounds, which only the reference tells.
+fn check_crossing() -> Result<(), String> {
+    let (mut upper, mut lower) = ([0; 255], [0; 255]);
+    Reference.read(b"window,least,most\r\n2,0,2\r\n255,256,65535\r\n", &mut upper, &mut lower);
+    let stop = rounds::run(&upper, &lower);
+    match (stop.curves.crosses(), stop.rounds) {
+        (true, 8) => Ok(()),
+        (crosses, rounds) => Err(format!("a crossing after 8 rounds is expected\ncame {crosses} after {rounds}")),
+    }
+}
+
 /// Long lists: 256 windows are a pair, 257 are none; the pair with the most rounds; the longest text that can be good, and longer ones.
 fn check_long(subject: &dyn Subject, rng: &mut Rng, tally: &mut Tally) -> Result<(), String> {
     for (horizon, answer) in [(256, 0), (257, refused(1))] {
@@ -192,6 +204,7 @@ fn check_long(subject: &dyn Subject, rng: &mut Rng, tally: &mut Tally) -> Result
 }
 
 pub fn compare(subject: &dyn Subject, rng: &mut Rng, tally: &mut Tally) -> Result<(), String> {
+    check_crossing()?;
     for implementor in [&Reference as &dyn Subject, subject] {
         for known in CLOSINGS {
             check_closing(implementor, known)?;

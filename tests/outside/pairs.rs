@@ -97,7 +97,7 @@ fn increasing(rng: &mut Rng, horizon: usize) -> Pair {
 }
 
 /// A pair as a text with few records gives it.
-fn from_triples(rng: &mut Rng, horizon: usize) -> Pair {
+fn from_constraints(rng: &mut Rng, horizon: usize) -> Pair {
     let most = rng.pick(&[4, 12, 300, 65_536]);
     let mut named = vec![None; horizon];
     named[horizon - 1] = Some(rng.below(most));
@@ -215,7 +215,7 @@ pub fn any(rng: &mut Rng, horizon: usize) -> Pair {
         0..=2 => small(rng, horizon),
         3..=5 => about_a_rate(rng, horizon),
         6 => increasing(rng, horizon),
-        7 => from_triples(rng, horizon),
+        7 => from_constraints(rng, horizon),
         8 => two_windows(rng, horizon),
         9 => extremes(rng, horizon),
         10 => anything(rng, horizon),
@@ -231,6 +231,6 @@ pub fn lasting(rng: &mut Rng, horizon: usize) -> Pair {
         0 => about_a_rate(rng, horizon),
         1 => increasing(rng, horizon),
         2 => loosened(rng, horizon),
-        _ => from_triples(rng, horizon),
+        _ => from_constraints(rng, horizon),
     }
 }

@@ -7,7 +7,7 @@ use crate::random::Rng;
 use crate::reference::Reference;
 use crate::subject::{refusal_of, shown, value_of, Subject, LONGEST_HORIZON, LONGEST_REPORT, TEXT_LIMIT};
 use crate::tally::{Tally, FIRST_FAULT, HORIZON, ONE_RECORD, PROGRAM, READING, REPORT, ROOM, SHORT};
-use crate::texts::Triple;
+use crate::texts::Constraint;
 use crate::{text, texts};
 
 /// Bytes or entries on either side of a result list, which no call may touch.
@@ -168,8 +168,8 @@ pub fn compare_program(program: &str, rng: &mut Rng, tally: &mut Tally) -> Resul
 
 /// Every window with the longest figures.
 pub fn longest_good_text() -> Vec<u8> {
-    let all: Vec<Triple> = (1..=LONGEST_HORIZON as u32)
-        .map(|window| Triple {
+    let all: Vec<Constraint> = (1..=LONGEST_HORIZON as u32)
+        .map(|window| Constraint {
             window,
             least: 10_000,
             most: TEXT_LIMIT,

@@ -39,7 +39,7 @@ impl Curves {
         self.upper.len() - 1
     }
 
-    fn crosses(&self) -> bool {
+    pub fn crosses(&self) -> bool {
         (1..=self.horizon()).any(|d| self.lower[d] > self.upper[d])
     }
 

@@ -4,14 +4,14 @@ use crate::odd_texts;
 use crate::random::Rng;
 use crate::subject::{HEADER, LONGEST_HORIZON, LONGEST_TEXT, TEXT_LIMIT};
 
-pub struct Triple {
+pub struct Constraint {
     pub window: u32,
     pub least: u32,
     pub most: u32,
 }
 
 /// Records about a common rate, so that many of the texts have closed curves.
-fn triples(rng: &mut Rng) -> Vec<Triple> {
+fn constraints(rng: &mut Rng) -> Vec<Constraint> {
     let (longest, most_events) = match rng.below(100) {
         0 => (LONGEST_HORIZON as u32, 65_535),
         1..=10 => (40, 5_000),
@@ -30,22 +30,22 @@ fn triples(rng: &mut Rng) -> Vec<Triple> {
         let share = window * events / ticks;
         let most = (share + rng.below(slack + 1)).min(TEXT_LIMIT);
         let least = share.saturating_sub(rng.below(slack)).min(TEXT_LIMIT) * rng.below(2);
-        list.push(Triple { window, least, most });
+        list.push(Constraint { window, least, most });
     }
     list
 }
 
-pub fn written(list: &[Triple]) -> Vec<u8> {
+pub fn written(list: &[Constraint]) -> Vec<u8> {
     let mut text = HEADER.to_vec();
     text.extend(b"\r\n");
-    for triple in list {
-        text.extend(format!("{},{},{}\r\n", triple.window, triple.least, triple.most).bytes());
+    for constraint in list {
+        text.extend(format!("{},{},{}\r\n", constraint.window, constraint.least, constraint.most).bytes());
     }
     text
 }
 
 pub fn good(rng: &mut Rng) -> Vec<u8> {
-    let mut text = written(&triples(rng));
+    let mut text = written(&constraints(rng));
     if rng.one_in(3) {
         text.truncate(text.len() - 2);
     }
@@ -86,8 +86,8 @@ fn long(rng: &mut Rng) -> Vec<u8> {
         LONGEST_TEXT + 2,
         40_000,
     ]);
-    let all: Vec<Triple> = (1..=LONGEST_HORIZON as u32)
-        .map(|window| Triple {
+    let all: Vec<Constraint> = (1..=LONGEST_HORIZON as u32)
+        .map(|window| Constraint {
             window,
             least: 0,
             most: TEXT_LIMIT,
@@ -118,12 +118,12 @@ fn at_limits(rng: &mut Rng) -> Vec<u8> {
     } else {
         (&windows[..5], &figures[..5])
     };
-    let triple = |rng: &mut Rng| Triple {
+    let constraint = |rng: &mut Rng| Constraint {
         window: rng.pick(windows),
         least: rng.pick(figures),
         most: rng.pick(figures),
     };
-    let list: Vec<Triple> = (0..rng.between(1, 2)).map(|_| triple(rng)).collect();
+    let list: Vec<Constraint> = (0..rng.between(1, 2)).map(|_| constraint(rng)).collect();
     written(&list)
 }
 

@@ -5,7 +5,11 @@ use Rattle.laws.specs.Ranges.{fold}
 use Rattle.laws.proofs.Best.{fold-turn}
 use Rattle.curves.specs.Pairs.{figure}
 use Rattle.curves.specs.Rounds.{cutOff, newFigure}
-use Rattle.closure.specs.Steps.{sums, differences}
+use Rattle.closure.specs.Steps.{sums}
+
+-- The best of x and the figures that windows longer by 1 to n ticks give one of d ticks.
+abbrev pub differences : (ℕ → ℕ → ℕ) → ℕ → List ℕ → List ℕ → ℕ → ℕ → ℕ
+differences best x own other d n = fold best x (λ t. figure 0 own (d + t) - figure 0 other t) n
 
 -- A turn of a loop that holds the best of x and f 1 to f (k - 1), and takes f k.
 pub best-turn

@@ -27,10 +27,6 @@ Ready p found = SameLengths p found × (question4 p .asked)
 abbrev pub sums : (ℕ → ℕ → ℕ) → List ℕ → ℕ → ℕ → ℕ
 sums best own d n = fold best (figure 0 own d) (λ a. figure 0 own a + figure 0 own (d - a)) n
 
--- The best of x and the figures that windows longer by 1 to n ticks give one of d ticks.
-abbrev pub differences : (ℕ → ℕ → ℕ) → ℕ → List ℕ → List ℕ → ℕ → ℕ → ℕ
-differences best x own other d n = fold best x (λ t. figure 0 own (d + t) - figure 0 other t) n
-
 -- ---- the rounds
 -- The lists that rounds are run for: those that a round is computed for, of at most 256 entries.
 abbrev pub Fit : Pair → Pair → Type 0

@@ -84,7 +84,8 @@ fn sum_at(figures: &[u32], a: usize, d: usize) -> u32
 }
 
 // What a window of d + t ticks leaves its first d when the other t have the figure of the other curve. Cut off at 0: a negative difference
-// is below every old least, and as a ceiling it crosses in this very round, as 0 does (`CutOffArrives`, `CutOffCrosses`).
+// is below every old least, and where a ceiling's is negative, some window crosses in this very round, cut off or not (`CutOffArrives`,
+// `CutOffCrosses`).
 fn difference_at(own: &[u32], other: &[u32], d: usize, t: usize) -> u32
     requires { ⌜ (length (now other) ≡ length (now own)) × (1 ≤ t) × (d + t ≤ length (now own)) ⌝ }
     ensures { λ r. ⌜ r ≡ figure 0 (now (own .entry)) (d + t) - figure 0 (now (other .entry)) t ⌝ }

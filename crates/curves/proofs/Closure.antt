@@ -13,7 +13,7 @@ use Rattle.curves.proofs.Kept.{rounds-keep-streams}
 use Rattle.curves.proofs.Arrival.{runs-none}
 use Rattle.curves.proofs.Closed.{Closed, closed}
 use Rattle.curves.proofs.Extension.{extends, start-conforms}
-use Rattle.curves.proofs.Followed.{Follows, follows-upper, follows-lower}
+use Rattle.curves.proofs.Followed.{Followed, followed-upper, followed-lower}
 use Rattle.curves.proofs.NextTick.{conforms-keeps, keeps-conforms, range-whole, goes-on}
 
 -- ---- the closure is causal
@@ -65,14 +65,14 @@ module _ (p q : Pair) (n : ℕ) (a : Arrives whole p n q) where
     pub begins-closure : (xs : List ℕ) (s : ℕ → ℕ) → Begins xs s → Conforms∞ p s → Conforms q xs
     begins-closure xs s b c = start-conforms q xs s b (closure-streams s .0 c)
 
-    follow : (g : ℕ → ℕ) → Follows q g → (s : ℕ → ℕ) × Conforms∞ p s × ((d : ℕ) → d ≤ horizon p → sum s 0 d ≡ g d)
+    follow : (g : ℕ → ℕ) → Followed q g → (s : ℕ → ℕ) × Conforms∞ p s × ((d : ℕ) → d ≤ horizon p → sum s 0 d ≡ g d)
     follow g f = (f .0, closure-streams (f .0) .1 (f .1), λ d v. f .2 d (rw closure-horizon v))
 
     pub closure-upper : (s : ℕ → ℕ) × Conforms∞ p s × ((d : ℕ) → d ≤ horizon p → sum s 0 d ≡ upperAt q d)
-    closure-upper = follow (upperAt q) (follows-upper q closure-closed h′)
+    closure-upper = follow (upperAt q) (followed-upper q closure-closed h′)
 
     pub closure-lower : (s : ℕ → ℕ) × Conforms∞ p s × ((d : ℕ) → d ≤ horizon p → sum s 0 d ≡ lowerAt q d)
-    closure-lower = follow (lowerAt q) (follows-lower q closure-closed h′)
+    closure-lower = follow (lowerAt q) (followed-lower q closure-closed h′)
 
 -- Arrived at a closure, so at any equal one.
 pub arrives-equal : (p q r : Pair) (n : ℕ) → Arrives whole p n q → Equal q r → Arrives whole p n r

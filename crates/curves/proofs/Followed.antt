@@ -11,8 +11,8 @@ use Rattle.curves.proofs.Closed.{Closed}
 use Rattle.curves.proofs.Extension.{extends}
 
 -- A conforming stream whose first d ticks have the sum g d, for every d up to the horizon.
-abbrev pub Follows : Pair → (ℕ → ℕ) → Type 0
-Follows p g = (s : ℕ → ℕ) × Conforms∞ p s × ((d : ℕ) → d ≤ horizon p → sum s 0 d ≡ g d)
+abbrev pub Followed : Pair → (ℕ → ℕ) → Type 0
+Followed p g = (s : ℕ → ℕ) × Conforms∞ p s × ((d : ℕ) → d ≤ horizon p → sum s 0 d ≡ g d)
 
 -- g grows, over any d ticks more, by no less than their least and no more than their ceiling.
 module _ (p : Pair) (C : Closed p) (h : 1 ≤ horizon p) (g : ℕ → ℕ) (none : g 0 ≡ 0)
@@ -42,8 +42,8 @@ module _ (p : Pair) (C : Closed p) (h : 1 ≤ horizon p) (g : ℕ → ℕ) (none
       let l : i + d ≤ horizon p = (rw length-steps at w) in
       omega (arith, climb i d l, lower-more i d l, upper-more i d l)
 
-  follows : Follows p g
-  follows =
+  followed : Followed p g
+  followed =
       let (s, b, c) = extends p C h steps steps-conform in
       (s, c, λ d l. sym (local (countsOf steps) s 0 d (λ k u v. b k (omega (arith, length-steps)))) ∙ from-start d l)
     where
@@ -52,10 +52,10 @@ module _ (p : Pair) (C : Closed p) (h : 1 ≤ horizon p) (g : ℕ → ℕ) (none
           let e : 0 + d ≡ d = omega arith in
           omega (arith, climb 0 d (omega arith), ap g e)
 
-pub follows-upper : (p : Pair) → Closed p → 1 ≤ horizon p → Follows p (upperAt p)
+pub followed-upper : (p : Pair) → Closed p → 1 ≤ horizon p → Followed p (upperAt p)
 unfolding figure
-follows-upper p C h = follows p C h (upperAt p) refl (λ i d l. C .minus i d l .0) (λ i d l. C .plus i d l .0)
+followed-upper p C h = followed p C h (upperAt p) refl (λ i d l. C .minus i d l .0) (λ i d l. C .plus i d l .0)
 
-pub follows-lower : (p : Pair) → Closed p → 1 ≤ horizon p → Follows p (lowerAt p)
+pub followed-lower : (p : Pair) → Closed p → 1 ≤ horizon p → Followed p (lowerAt p)
 unfolding figure
-follows-lower p C h = follows p C h (lowerAt p) refl (λ i d l. C .plus i d l .1) (λ i d l. C .minus i d l .1)
+followed-lower p C h = followed p C h (lowerAt p) refl (λ i d l. C .plus i d l .1) (λ i d l. C .minus i d l .1)

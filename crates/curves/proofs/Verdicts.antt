@@ -31,7 +31,7 @@ module _ (p : Pair) (xs : List ℕ) where
       elim (decLe e n) [ yes h ↦ all e h j | no h ↦ let q : e ≡ suc n = omega arith in rw q (i (rw q at j)) ]
 
   pub shortest : (n : ℕ) → KeptTo n → Judged p xs (suc n) → ¬ Inside p (suc n) (last xs (suc n)) → Shortest p xs (suc n)
-  shortest n all j o = record { judged = j; outside = o; shorter = λ e l i. all e (omega arith) i }
+  shortest n all j o = record { window-judged = j; outside = o; shorter = λ e l i. all e (omega arith) i }
 
   unfoldable pub judged? : (d : ℕ) → Dec (Judged p xs d)
   judged? d =
@@ -69,13 +69,13 @@ module _ (p : Pair) (xs : List ℕ) where
 
   -- ---- and no other
   no-shorter : {d e : ℕ} → Shortest p xs d → Shortest p xs e → ¬ (d < e)
-  no-shorter {d} s t l = s .outside (t .shorter d l (s .judged))
+  no-shorter {d} s t l = s .outside (t .shorter d l (s .window-judged))
 
   one-window : {d e : ℕ} → Shortest p xs d → Shortest p xs e → d ≡ e
   one-window s t = omega (arith, no-shorter s t, no-shorter t s)
 
   kept-or-not : {d : ℕ} → Keeps p xs → Shortest p xs d → ⊥
-  kept-or-not {d} k s = s .outside (k d (s .judged))
+  kept-or-not {d} k s = s .outside (k d (s .window-judged))
 
   many-or-few : (d e : ℕ) → Right p xs (tooMany d) → Right p xs (tooFew e) → ⊥
   many-or-few d e r q = q .1 (subst (λ (k : ℕ). TooMany p k (last xs k)) (one-window (r .0) (q .0)) (r .1))
@@ -118,16 +118,16 @@ module _ (p : Pair) (xs ys : List ℕ) (a : Alike p xs ys) where
   shortest-alike : (d : ℕ) → Shortest p xs d → Shortest p ys d
   shortest-alike d s =
       record {
-        judged = judged-alike (a .lengths) (s .judged);
-        outside = λ i. s .outside (rw (a .sums d (s .judged)) i);
+        window-judged = judged-alike (a .lengths) (s .window-judged);
+        outside = λ i. s .outside (rw (a .sums d (s .window-judged)) i);
         shorter = λ e l. inside-alike e (s .shorter e l);
       }
 
   pub right-alike : (v : Verdict) → Right p xs v → Right p ys v
   right-alike passed r = keeps-alike r
-  right-alike (tooMany d) r = (shortest-alike d (r .0), rw (a .sums d (r .0 .judged)) at (r .1))
+  right-alike (tooMany d) r = (shortest-alike d (r .0), rw (a .sums d (r .0 .window-judged)) at (r .1))
   right-alike (tooFew d) r =
-      let e : last xs d ≡ last ys d = a .sums d (r .0 .judged) in (shortest-alike d (r .0), rw e at (r .1), rw e at (r .2))
+      let e : last xs d ≡ last ys d = a .sums d (r .0 .window-judged) in (shortest-alike d (r .0), rw e at (r .1), rw e at (r .2))
 
 -- ---- the last H ticks, with the newest, have all judged windows
 module _ (n : ℕ) (xs : List ℕ) where

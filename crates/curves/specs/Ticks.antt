@@ -30,7 +30,7 @@ Keeps p xs = (d : ℕ) → Judged p xs d → Inside p d (last xs d)
 
 -- The judged window of d ticks does not, and each shorter one does.
 pub record Shortest (p : Pair) (xs : List ℕ) (d : ℕ) : Type 0 where
-  pub judged : Judged p xs d
+  pub window-judged : Judged p xs d
   pub outside : ¬ Inside p d (last xs d)
   pub shorter : (e : ℕ) → e < d → Judged p xs e → Inside p e (last xs e)
 

@@ -30,8 +30,8 @@ rejects-iff-outside v x l =
 
     go : ¬ PassesCount v x → (w : Verdict) → Right (v .pair) ys w → (d : ℕ) × Judged (v .pair) ys d × (¬ Inside (v .pair) d (last ys d))
     go n passed r = absurd (n (ruling-is v x l passed r))
-    go n (tooMany d) r = (d, r .0 .judged, r .0 .outside)
-    go n (tooFew d) r = (d, r .0 .judged, r .0 .outside)
+    go n (tooMany d) r = (d, r .0 .window-judged, r .0 .outside)
+    go n (tooFew d) r = (d, r .0 .window-judged, r .0 .outside)
 
 -- A monitor that has failed stays so.
 abbrev AllFailed : MonitorView → List ℕ → Type 0

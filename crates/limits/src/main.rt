@@ -2,12 +2,12 @@
 // rounds and of eight, and states that anyone could build but no opening and no tick hands out. Each line is what was tried and what came
 // back; the outside tests compute the same lines.
 mod lists;
-mod longest;
 mod numbers;
+mod rounds;
 mod states;
 
 fn main() {
     lists::try_all();
-    longest::try_all();
+    rounds::try_all();
     states::try_all();
 }

@@ -6,7 +6,7 @@ use mathlib.Core.List.{List}
 use Rattle.laws.specs.Tests.{Tells}
 use Rattle.laws.specs.Writing.{over}
 
--- What is left of the list that was found, and whether that is as it was found.
+-- The list is left with the entries of the other over its own, and it is told whether that is as it was found.
 pub record Copied (from found left : List ℕ) (same : Bool) : Type 0 where
   pub entries : left ≡ over from found
   pub told : Tells same (left ≡ found)

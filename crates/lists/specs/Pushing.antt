@@ -13,7 +13,7 @@ behind found n x = take n found ++ (x ∷ [])
 abbrev pub heldWith : List ℕ → ℕ → ℕ → List ℕ
 heldWith found n x = drop (length (behind found n x) - length found) (behind found n x)
 
--- They stand in the first entries of what is left of the list, and their number is given back; the other entries are as found.
+-- The list is left with these at its beginning and its other entries as found, and their number is given back.
 pub record Pushed (found : List ℕ) (n x : ℕ) (left : List ℕ) (r : ℕ) : Type 0 where
   pub entries : left ≡ over (heldWith found n x) found
   pub number : r ≡ length (heldWith found n x)

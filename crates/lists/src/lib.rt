@@ -25,8 +25,8 @@ pub fn copy(from: &[u32], to: &mut [u32]) -> bool
     same
 }
 
-// Puts a count behind the first `held` entries of a list that has room for the newest so many; where it is full, the oldest goes. Gives
-// back how many are then held.
+// Puts a count behind the first `held` entries of a list, all of them if it has fewer. Where no place is left behind them, the others move
+// down one place and the oldest is gone. Gives back how many entries are then held; those behind them stay as they are.
 pub fn push(list: &mut [u32], held: usize, count: u32) -> usize
     ensures { λ r. ⌜ Pushed (now (list .entry)) held count (now (list .exit)) r ⌝ }
 {

@@ -14,7 +14,7 @@ use Rattle.monitor.specs.Answers.{verdictReply}
 pub record MonitorOpened (p : Pair) (r : OpenedMonitor) : Type 0 where
   pub answer : openingReply (r .opening) ≡ opening p
   pub history : Begun (opening p) p (r .state .history)
-  pub unfailed : r .state .failed ≡ false
+  pub mark : r .state .failed ≡ false
 
 pub record MonitorTicked (m : Monitor) (x : ℕ) (r : Judgement) : Type 0 where
   pub answer : verdictReply (r .verdict) ≡ judging (monitorViewOf m) x

@@ -10,7 +10,7 @@ use Rattle.csv.specs.Records.{WellFormed}
 use Rattle.records.specs.Recording.{recording}
 use Rattle.records.specs.Answers.{recordReply}
 use Rattle.records.specs.Steps.{firstField, Numbered, RangeChecked, Numerals, Figured}
-use Rattle.records.specs.declared.Number.the-variants.{Value}
+use Rattle.records.specs.declared.Parsed.the-variants.{Value}
 use Rattle.records.specs.declared.Record.{Record}
 use Rattle.records.specs.declared.Record.the-variants.{Spells, Malformed, OutOfRange}
 use Rattle.records.proofs.Said.{refused-iff, given-is}

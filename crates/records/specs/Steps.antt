@@ -5,8 +5,8 @@ use mathlib.Core.List.{[]}
 use lib.ListN.{getD}
 use Rattle.csv.specs.Text.{Bytes, cr, lf, fields}
 use Rattle.csv.specs.Numbers.{Numeral, value}
-use Rattle.records.specs.declared.Number.{Number}
-use Rattle.records.specs.declared.Number.the-variants.{Value, NoNumeral}
+use Rattle.records.specs.declared.Parsed.{Parsed}
+use Rattle.records.specs.declared.Parsed.the-variants.{Value, NoNumeral}
 use Rattle.records.specs.declared.Record.{Record}
 use Rattle.records.specs.declared.Record.the-variants.{Spells, Malformed, OutOfRange}
 use Rattle.csv.specs.Records.{constraint, InRange}
@@ -20,7 +20,7 @@ abbrev pub firstField : Bytes → Bytes
 firstField r = getD (fields r) 0 []
 
 -- What a field was found to be.
-abbrev pub Numbered : Bytes → Number → Type 0
+abbrev pub Numbered : Bytes → Parsed → Type 0
 Numbered f (Value n) = Numeral f × (n ≡ value f)
 Numbered f NoNumeral = ¬ Numeral f
 

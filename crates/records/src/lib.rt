@@ -32,12 +32,13 @@ pub enum Record {
 }
 
 // What a field spells.
-enum Number {
+enum Parsed {
     Value(u32),
     NoNumeral,
 }
 
-// Reads the record that the rest of a text begins with.
+// Reads the record that the rest of a text begins with: the part up to the next CR LF, or all of it. Of an empty rest that is an empty
+// record, which is malformed as any other is.
 pub fn read_record(rest: &[u8]) -> Record
     ensures { λ r. ⌜ recordReply r ≡ recording (firstRecord (now (rest .entry))) ⌝ }
 {
@@ -107,49 +108,49 @@ fn find_field(line: &[u8]) -> &[u8]
 fn parse_fields(window: &[u8], least: &[u8], most: &[u8], length: usize) -> Record
     ensures { λ r. ⌜ Figured (now (window .entry)) (now (least .entry)) (now (most .entry)) length r ⌝ }
 {
-    let Number::Value(w) = parse_number(window) else {
+    let Parsed::Value(w) = parse_number(window) else {
         return Record::Malformed;
     };
-    let Number::Value(l) = parse_number(least) else {
+    let Parsed::Value(l) = parse_number(least) else {
         return Record::Malformed;
     };
-    let Number::Value(m) = parse_number(most) else {
+    let Parsed::Value(m) = parse_number(most) else {
         return Record::Malformed;
     };
     check_range(w, l, m, length)
 }
 
 // The number that a field spells: 1 to 5 digits with no leading zero.
-fn parse_number(field: &[u8]) -> Number
+fn parse_number(field: &[u8]) -> Parsed
     ensures { λ r. ⌜ Numbered (now (field .entry)) r ⌝ }
 {
     let n = field.len();
     if n < 1 {
-        return Number::NoNumeral;
+        return Parsed::NoNumeral;
     }
     if MAX_DIGITS < n {
-        return Number::NoNumeral;
+        return Parsed::NoNumeral;
     }
     if field[0] == b'0' {
         if n == 1 {
-            return Number::Value(0);
+            return Parsed::Value(0);
         }
-        return Number::NoNumeral;
+        return Parsed::NoNumeral;
     }
     let mut value = 0;
     let mut i = 0;
     while i < n {
         let b = field[i];
         if b < b'0' {
-            return Number::NoNumeral;
+            return Parsed::NoNumeral;
         }
         if b'9' < b {
-            return Number::NoNumeral;
+            return Parsed::NoNumeral;
         }
         value = value * 10 + (b - b'0') as u32;
         i += 1;
     }
-    Number::Value(value)
+    Parsed::Value(value)
 }
 
 // The record's constraint, if its figures are in range.

@@ -66,7 +66,7 @@ judged-within v b x u d names e =
 
 pub names-window : (w : MonitorView) (x : ℕ) (u : declared.Verdict) → verdictReply u ≡ judging w x → NamesWindow u
 names-window w x Passed e = tt
-names-window w x (TooMany d) e = judged-within (w .view) (w .failed) x (tooMany d) d (λ r. r .0 .judged) e
-names-window w x (TooFew d) e = judged-within (w .view) (w .failed) x (tooFew d) d (λ r. r .0 .judged) e
+names-window w x (TooMany d) e = judged-within (w .view) (w .failed) x (tooMany d) d (λ r. r .0 .window-judged) e
+names-window w x (TooFew d) e = judged-within (w .view) (w .failed) x (tooFew d) d (λ r. r .0 .window-judged) e
 names-window w x AlreadyFailed e = tt
 names-window w x BadState e = tt

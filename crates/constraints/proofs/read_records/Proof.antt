@@ -27,12 +27,12 @@ text h = h .before .before .before .args .text .now
 abbrev head : tie.After-known-told Inv-loop μ-loop → tie.At-loop Inv-loop μ-loop
 head k = k .before .before .before .before .before .before
 
-abbrev Found : tie.After-known-told Inv-loop μ-loop → Type 0
-Found k =
+abbrev IsRecord : tie.After-known-told Inv-loop μ-loop → Type 0
+IsRecord k =
     let (w, (l, (m, (n, _)))) = k .before .window .given .0 in
     result (spelt (constraint w l m) n) ≡ recording (recordAt (text (head k)) (head k .loop .at))
 
-found : (k : tie.After-known-told Inv-loop μ-loop) → Found k
+found : (k : tie.After-known-told Inv-loop μ-loop) → IsRecord k
 found k = sym (ap recordReply (k .before .window .given .1)) ∙ k .before .before .before .read-record .ensures
 
 sub-if1 : tie.Need-sub-if1 Inv-loop μ-loop

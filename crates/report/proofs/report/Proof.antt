@@ -1,4 +1,4 @@
--- `report::report` meets its promise: what follows from what reading answers into blank lists.
+-- `report::report` meets its promise: what follows from what reading answers into lists of zeros.
 -- Assumes nothing.
 use Rattle.laws.proofs.Base.{ap, needs}
 use Rattle.constraints.specs.Reading.{reading}

@@ -1,4 +1,4 @@
--- `report::report_pair` meets its contract: what follows from what closing answers into blank lists.
+-- `report::report_pair` meets its contract: what follows from what closing answers into lists of zeros.
 -- Assumes nothing.
 use Rattle.laws.proofs.Base.{needs, length}
 use Rattle.curves.specs.Pairs.{pairOf}

@@ -21,7 +21,7 @@ returns c =
     (λ v. map rulingCode (rulings (monitorView v false) (args .script .now))) (args .script .now) _
     (ran .judge-all .ensures
     ∙ ap (λ b. map rulingCode (rulings (monitorView (viewOf (told .result .state .history)) b) (args .script .now)))
-    (told .ensures .unfailed))
+    (told .ensures .mark))
 
 returns-2 : tie.Need-returns-2
 returns-2 c =

@@ -2,8 +2,7 @@
 -- Assumes nothing.
 use Rattle.laws.proofs.Base.{_+_, _-_, _≤_, min, max, _≡_, refl, ap, _∙_, arith, needs, length}
 use Rattle.laws.specs.Ranges.{fold}
-use Rattle.closure.specs.Steps.{differences}
-use Rattle.closure.proofs.Rounding.{best-turn, new-figure}
+use Rattle.closure.proofs.Rounding.{differences, best-turn, new-figure}
 use Rattle.closure.proofs.round.new_figures.Statement.{statement}
 use Rattle.closure.proofs.round.new_figures.Tie as tie
 

@@ -1,11 +1,11 @@
--- `limits::longest::try_text` is safe: reading leaves the lists as long as they were.
+-- `limits::rounds::try_text` is safe: reading leaves the lists as long as they were.
 -- Assumes nothing.
 use mathlib.Core.Path.{sym}
 use native.Mathlib.Omega.{arith}
 use lib.Seq.{length-take-le}
 use borrow.Author.Needs.{needs}
-use Rattle.limits.proofs.longest.try_text.Statement.{statement}
-use Rattle.limits.proofs.longest.try_text.Tie as tie
+use Rattle.limits.proofs.rounds.try_text.Statement.{statement}
+use Rattle.limits.proofs.rounds.try_text.Tie as tie
 
 slice-aggregate-try-closing : tie.Need-slice-aggregate-try-closing
 slice-aggregate-try-closing c =
