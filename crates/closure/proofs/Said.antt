@@ -39,7 +39,8 @@ module _ (p found : Pair) where
   unfolding closing
   closed-is n q ok a = said-yes (closingQuestions p found) _ _ (givenClosing n q found) (all-yes ok (n, q, a)) same
     where
-      same : (ys : AllYes (closingQuestions p found)) → givenClosing (ys .1 .1 .1 .1 .0 .0) (ys .1 .1 .1 .1 .0 .1) found ≡ givenClosing n q found
+      same : (ys : AllYes (closingQuestions p found))
+          → givenClosing (ys .1 .1 .1 .1 .0 .0) (ys .1 .1 .1 .1 .0 .1) found ≡ givenClosing n q found
       same ys =
           let c : Closes p = ys .1 .1 .1 .1 .0 in
           let one = arrives-once p (c .1) q (c .0) n (c .2) a in

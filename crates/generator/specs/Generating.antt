@@ -35,7 +35,7 @@ sentFrom (refusal n) choice = refusal n
 abbrev pub sending : View → ℕ → Reply ℕ
 sending v choice = sentFrom (ranging v) choice
 
--- Two states are equal: their horizon, the figures up to it and the held ticks in order are.
+-- Equality of states: of the views, so of the horizon and the figures up to it, and of the held ticks as a list.
 abbrev pub EqualGenerators : Generator → Generator → Type 0
 EqualGenerators g g′ = viewOf (g .history) ≡ viewOf (g′ .history)
 

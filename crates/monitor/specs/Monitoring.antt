@@ -20,7 +20,7 @@ monitorView v b = record { view = v; failed = b }
 abbrev pub monitorViewOf : Monitor → MonitorView
 monitorViewOf m = monitorView (viewOf (m .history)) (m .failed)
 
--- Two states are equal: their horizon, the figures up to it, the held ticks in order and the failed mark are.
+-- Equality of states: of the views, so of the horizon and the figures up to it, of the held ticks as a list, and of the mark.
 abbrev pub EqualMonitors : Monitor → Monitor → Type 0
 EqualMonitors m m′ = monitorViewOf m ≡ monitorViewOf m′
 
