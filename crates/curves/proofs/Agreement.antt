@@ -124,6 +124,9 @@ module _ (p : Pair) where
   pub runs-cut : (n : ℕ) → Runs whole p n → Runs cutOff p n
   runs-cut = runs-over whole cutOff p tied
 
+  pub runs-whole : (n : ℕ) → Runs cutOff p n → Runs whole p n
+  runs-whole = runs-over cutOff whole p (λ k. tied-sym (tied k))
+
 pub cut-off-arrives : CutOffArrives
 cut-off-arrives p n q = (arrives-over whole cutOff p (tied p) n q, arrives-over cutOff whole p (λ k. tied-sym (tied p k)) n q)
 

@@ -8,7 +8,7 @@ use Rattle.laws.proofs.Table.{length-table, getD-table, table-self, table-same}
 use Rattle.curves.specs.Pairs.{Curves, horizon, figure, Same, Pair, upperAt, lowerAt}
 use Rattle.curves.specs.Rounds.{Arithmetic, cutOff, newFigure, newUpper, newLower, round, figuresOf, after, Crossed}
 
-figure-table : {N : Type 0} (z : N) (f : ℕ → N) (n d : ℕ) → 1 ≤ d → d ≤ n → figure z (table f n) d ≡ f d
+pub figure-table : {N : Type 0} (z : N) (f : ℕ → N) (n d : ℕ) → 1 ≤ d → d ≤ n → figure z (table f n) d ≡ f d
 unfolding figure
 figure-table z f n zero p q = absurd (omega arith)
 figure-table z f n (suc d) p q = getD-table f n d z q

@@ -1,5 +1,5 @@
 -- The rounds (document 01, "The closure"), stated once over what they compute with: document 01's whole numbers, and the natural
--- numbers with differences cut off at 0 that the code computes with.
+-- numbers with differences cut off at 0 that the code's rounds come to.
 use Prim.Native.Nat.{ℕ, zero, suc, _+_, _-_, _≤_, _<_, min, max}
 use mathlib.Core.Bool.{cond}
 use lib.IntN.{ℤ, pos, _+ℤ_, _-ℤ_}

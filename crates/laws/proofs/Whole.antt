@@ -2,9 +2,9 @@
 -- of these. Assumes nothing.
 use Rattle.laws.proofs.Base.{ℕ, zero, suc, _+_, _-_, _≤_, _<_, min, max, _≡_, refl, ap, _∙_, Bool, true, false, cond}
 use Rattle.laws.proofs.Base.{decLe, arith, lt-ltb, le-ltb}
-use lib.Dec.{leb, ltb→lt, lt→ltb}
-use lib.IntN.{ℤ, pos, negsuc, subℕ, _-ℤ_}
-use lib.Signed.{_<ℤ_, leZ}
+use lib.Dec.{leb, ltb→lt, lt→ltb, leb→le, le→leb}
+use lib.IntN.{ℤ, pos, negsuc, negℤ, subℕ, _-ℤ_}
+use lib.Signed.{_<ℤ_, _≤ℤ_, leZ}
 use Rattle.laws.specs.Tests.{Tells}
 use Rattle.laws.proofs.Tests.{leb-told, tells-same}
 use Rattle.laws.proofs.Best.{IsBest}
@@ -31,6 +31,18 @@ parts-lt (negsuc a) (negsuc b) h = record { lt = lt→ltb b a (omega arith) }
 
 abbrev pub AtMost : ℤ → ℤ → Type 0
 AtMost x y = up x + down y ≤ up y + down x
+
+pub le-parts : (x y : ℤ) → x ≤ℤ y → AtMost x y
+le-parts (pos a) (pos b) h = omega (arith, leb→le a b (h .le))
+le-parts (pos a) (negsuc b) h = absurd (h .le)
+le-parts (negsuc a) (pos b) h = omega arith
+le-parts (negsuc a) (negsuc b) h = omega (arith, leb→le b a (h .le))
+
+pub parts-le : (x y : ℤ) → AtMost x y → x ≤ℤ y
+parts-le (pos a) (pos b) h = record { le = le→leb a b (omega arith) }
+parts-le (pos a) (negsuc b) h = absurd (omega arith)
+parts-le (negsuc a) (pos b) h = record { le = tt }
+parts-le (negsuc a) (negsuc b) h = record { le = le→leb b a (omega arith) }
 
 le-told : (x y : ℤ) → Tells (leZ x y) (AtMost x y)
 le-told (pos a) (pos b) = tells-same (leb a b) ((λ h. omega arith), (λ h. omega arith)) (leb-told a b)
@@ -82,6 +94,24 @@ minus-is a (suc b) = refl
 
 pub minus-pos : (a b : ℕ) → b ≤ a → (pos a -ℤ pos b) ≡ pos (a - b)
 minus-pos a b h = minus-is a b ∙ rw (le-ltb a b h)
+
+-- A difference is at least −n exactly where the other number is at most n more.
+neg-parts : (n : ℕ) → (up (negℤ (pos n)) ≡ 0) × (down (negℤ (pos n)) ≡ n)
+neg-parts zero = (refl, refl)
+neg-parts (suc n) = (refl, refl)
+
+minus-parts : (a b : ℕ) → (up (pos a -ℤ pos b) ≡ a - b) × (down (pos a -ℤ pos b) ≡ b - a)
+minus-parts a b =
+    elim (decLe b a) [
+      | yes h ↦ rw (minus-pos a b h) (refl, omega arith)
+      | no h ↦ rw (minus-is a b, lt-ltb a b (omega arith)) (omega arith, omega arith)
+    ]
+
+pub minus-above : (a b n : ℕ) → b ≤ a + n → negℤ (pos n) ≤ℤ (pos a -ℤ pos b)
+minus-above a b n h = parts-le (negℤ (pos n)) (pos a -ℤ pos b) (omega (arith, neg-parts n, minus-parts a b))
+
+pub above-minus : (a b n : ℕ) → negℤ (pos n) ≤ℤ (pos a -ℤ pos b) → b ≤ a + n
+above-minus a b n h = omega (arith, le-parts (negℤ (pos n)) (pos a -ℤ pos b) h, neg-parts n, minus-parts a b)
 
 pub larger-minus : (y a b : ℕ) → cond (leZ (pos y) (pos a -ℤ pos b)) (pos a -ℤ pos b) (pos y) ≡ pos (max y (a - b))
 larger-minus y a b =
