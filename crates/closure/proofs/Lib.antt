@@ -2,7 +2,15 @@
 pub mod Said
 pub mod Given
 pub mod Promised
+pub mod Widths
+mod Floats
+mod Rows
+mod Passes
+mod Convolving
+mod Deconvolving
+mod Tightening
 mod Rounding
 mod Running
 mod Progress
 mod Answered
+mod Examples

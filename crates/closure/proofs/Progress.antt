@@ -1,13 +1,16 @@
 -- What the loop over the rounds holds: how far they have come, which is never further than nine.
 -- Assumes nothing.
-use Rattle.laws.proofs.Base.{ℕ, _+_, _≤_, _≡_, sym, ap, _∙_, subst, Bool, true, false, add-one, arith, below-none, below-more, length}
-use Rattle.curves.specs.Pairs.{Pair, Same, horizon}
-use Rattle.curves.specs.Rounds.{cutOff, round, Crossed, Settled, after, Runs, Arrives, Crosses}
-use Rattle.curves.proofs.Figures.{given-self, round-horizon, round-full, full-same, same-refl}
-use Rattle.curves.proofs.Tightened.{below, upper-falls}
+use Rattle.laws.proofs.Base.{ℕ, _+_, _≤_, _≡_, sym, ap, _∙_, subst, Bool, true, false, ⊎-elim, add-one, below-none, below-more, length}
+use lib.IntN.{ℤ}
+use Rattle.curves.specs.Pairs.{Curves, Pair, Same, horizon}
+use Rattle.curves.specs.Rounds.{whole, cutOff, figuresOf, round, Crossed, Settled, after, Runs, Arrives, Crosses}
+use Rattle.curves.proofs.Figures.{given-self, round-full, full-same, same-refl}
+use Rattle.curves.proofs.Agreement.{agree, tied, runs-whole}
 use Rattle.curves.proofs.Bound.{few-runs}
 use Rattle.bounds.specs.Bounds.{maxHorizon, Bounded}
+use Rattle.closure.specs.Widths.{HalfWidth, RunAfter}
 use Rattle.closure.specs.Steps.{Advanced}
+use Rattle.closure.proofs.Widths.{rounds-are-half-width}
 use Rattle.laws.proofs.Tests.{either-true, either-false}
 
 -- A pair with as many leasts as ceilings.
@@ -17,29 +20,19 @@ Even c = length (c .lower) ≡ length (c .upper)
 as-same : {c e : Pair} → c ≡ e → Same 0 c e
 as-same {c} {e} h = rw h (same-refl 0 e)
 
--- No least is above its ceiling, so the leasts are bounded as the ceilings are.
-pub lower-bounded : (c : Pair) → Even c → ¬ Crossed cutOff c → Bounded (c .upper) → Bounded (c .lower)
-lower-bounded c e n b d u v = omega (arith, below c n d (omega arith), b d u (omega arith))
-
-round-bounded : (c : Pair) → Bounded (c .upper) → Bounded (round cutOff c .upper)
-round-bounded c b d u v =
-    let within : d ≤ horizon c = omega (arith, round-horizon cutOff c) in omega (arith, upper-falls c d within, b d u within)
-
 -- The rounds of p have come to c, after n that changed a figure.
 pub record Held (p : Pair) (n : ℕ) (c : Pair) : Type 0 where
   pub runs : Runs cutOff p n
   pub figures : c ≡ after cutOff n p
   pub even : Even c
-  pub bounded : Bounded (c .upper)
 
-pub begins : (p : Pair) → Even p → Bounded (p .upper) → Held p 0 p
+pub begins : (p : Pair) → Even p → Held p 0 p
 unfolding after
-begins p e b =
+begins p e =
     record {
       runs = record { uncrossed = below-none _; changes = below-none _ };
       figures = sym (given-self p e);
       even = e;
-      bounded = b;
     }
 
 module _ (p : Pair) (n : ℕ) (c : Pair) (h : Held p n c) where
@@ -49,6 +42,15 @@ module _ (p : Pair) (n : ℕ) (c : Pair) (h : Held p n c) where
 
   pub crosses : Crossed cutOff c → Crosses cutOff p n
   crosses x = record { runs = h .runs; crossed = subst (λ (y : Pair). Crossed cutOff y) (h .figures) x }
+
+  -- The sums and differences of the round that is run next keep their limits.
+  pub half-width : Bounded (p .upper) → ¬ Crossed cutOff c → HalfWidth (figuresOf whole c)
+  half-width b uncrossed =
+      let not-crossed : ¬ Crossed cutOff (after cutOff n p) = subst (λ (y : Pair). ¬ Crossed cutOff y) (h .figures) uncrossed in
+      let exact = ⊎-elim (λ e. e) (λ x. absurd (not-crossed (x .1))) (agree p n) in
+      let run : RunAfter p n = (runs-whole p n (h .runs), λ x. not-crossed (tied p n .crossed .0 x)) in
+      subst (λ (y : Pair). HalfWidth (figuresOf whole y)) (sym (h .figures))
+      (subst (λ (y : Curves ℤ). HalfWidth y) exact (rounds-are-half-width p n b run))
 
   module _ (uncrossed : ¬ Crossed cutOff c) (done : Bool) (next : Pair) (a : Advanced c done next) where
     next-even : Even next
@@ -79,5 +81,4 @@ module _ (p : Pair) (n : ℕ) (c : Pair) (h : Held p n c) where
               };
           figures = a .figures ∙ ap (round cutOff) (h .figures) ∙ rw add-one;
           even = next-even;
-          bounded = subst (λ (y : Pair). Bounded (y .upper)) (sym (a .figures)) (round-bounded c (h .bounded));
         }

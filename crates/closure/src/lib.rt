@@ -1,5 +1,6 @@
 // Closing a pair of arrival curves: every bound that its figures imply, made explicit, or the answer that no stream conforms to it.
 
+mod convolution;
 mod round;
 mod run;
 

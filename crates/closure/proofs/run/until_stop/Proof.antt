@@ -4,7 +4,7 @@ use Rattle.laws.proofs.Base.{_-_, _≤_, _≡_, refl, arith, needs, length}
 use Rattle.curves.specs.Rounds.{cutOff, Crossed}
 use Rattle.curves.specs.Pairs.{pairOf}
 use Rattle.laws.proofs.Tests.{either-true, either-false}
-use Rattle.closure.proofs.Progress.{Held, begins, at-most-nine, crosses, arrives, goes-on, lower-bounded}
+use Rattle.closure.proofs.Progress.{Held, begins, at-most-nine, crosses, half-width, arrives, goes-on}
 use Rattle.closure.proofs.run.until_stop.Statement.{statement}
 use Rattle.closure.proofs.run.until_stop.Tie as tie
 
@@ -24,7 +24,7 @@ few turn = at-most-nine _ _ _ (turn .loop .inv .0) (turn .before .before .before
 loop-holds : tie.Need-loop-holds Inv-loop μ-loop
 loop-holds c =
     let start = c .before .before .before .before in
-    (begins (pairOf (start .args .upper .now) (start .args .lower .now)) (start .pre .1 .0) (start .pre .0 .1), refl, refl, refl)
+    (begins (pairOf (start .args .upper .now) (start .args .lower .now)) (start .pre .1 .0), refl, refl, refl)
 
 returns : tie.Need-returns Inv-loop μ-loop
 returns c =
@@ -34,9 +34,10 @@ returns c =
 next-round-requires : tie.Need-next-round-requires Inv-loop μ-loop
 next-round-requires c κs =
     let went-on = c .before .before .before .before in
-    let held = went-on .before .before .before .before .loop .inv .0 in
+    let head = went-on .before .before .before .before in
+    let start = head .before .before .before .before .before in
     let uncrossed = either-false _ _ _ (went-on .if1 .left) (went-on .before .crossed .ensures) in
-    (search needs, (held .bounded, lower-bounded _ (held .even) uncrossed (held .bounded)))
+    (search needs, omega (arith, start .pre .0 .0, head .loop .inv .1), half-width _ _ _ (head .loop .inv .0) (start .pre .0 .1) uncrossed)
 
 -- The turn's beginning, seen from its round, and that no least was above its ceiling there.
 abbrev head : tie.After-next-round Inv-loop μ-loop → tie.At-loop Inv-loop μ-loop

@@ -1,0 +1,31 @@
+-- How large the sums and differences of a round can be (request P6), over document 01's whole numbers.
+use Prim.Native.Nat.{ℕ, _≤_}
+use lib.IntN.{ℤ, pos, negℤ, _+ℤ_, _-ℤ_}
+use lib.Signed.{_≤ℤ_}
+use Rattle.curves.specs.Pairs.{Curves, Pair, horizon, figure}
+use Rattle.curves.specs.Rounds.{whole, after, Runs, Crossed}
+use Rattle.bounds.specs.Bounds.{figureLimit, Bounded}
+
+-- Twice the largest figure.
+abbrev pub sumLimit : ℕ
+sumLimit = 33_553_920
+
+-- No sum of two figures of one curve passes 33,553,920, and no figure of one curve less a figure of the other falls below −16,776,960.
+pub record HalfWidth (c : Curves ℤ) : Type 0 where
+  pub upperSums : (a b : ℕ) → 1 ≤ a → a ≤ horizon c → 1 ≤ b → b ≤ horizon c
+      → (figure (pos 0) (c .upper) a +ℤ figure (pos 0) (c .upper) b) ≤ℤ pos sumLimit
+  pub lowerSums : (a b : ℕ) → 1 ≤ a → a ≤ horizon c → 1 ≤ b → b ≤ horizon c
+      → (figure (pos 0) (c .lower) a +ℤ figure (pos 0) (c .lower) b) ≤ℤ pos sumLimit
+  pub upperDifferences : (a b : ℕ) → 1 ≤ a → a ≤ horizon c → 1 ≤ b → b ≤ horizon c
+      → negℤ (pos figureLimit) ≤ℤ (figure (pos 0) (c .upper) a -ℤ figure (pos 0) (c .lower) b)
+  pub lowerDifferences : (a b : ℕ) → 1 ≤ a → a ≤ horizon c → 1 ≤ b → b ≤ horizon c
+      → negℤ (pos figureLimit) ≤ℤ (figure (pos 0) (c .lower) a -ℤ figure (pos 0) (c .upper) b)
+
+-- A round is run after n others: each of them changed a figure, and no least has come above its ceiling.
+abbrev pub RunAfter : Pair → ℕ → Type 0
+RunAfter p n = Runs whole p n × ¬ Crossed whole (after whole n p)
+
+-- ---- In every round that is run no sum passes the first limit, and no difference falls below the second. All that is asked of the pair as
+-- given is question 4 of its ceilings: where a round is run, no least is above its ceiling.
+abbrev pub RoundsAreHalfWidth : Type 0
+RoundsAreHalfWidth = (p : Pair) (n : ℕ) → Bounded (p .upper) → RunAfter p n → HalfWidth (after whole n p)
