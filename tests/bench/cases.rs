@@ -52,13 +52,9 @@ fn read(case: &Case, contender: &Contender) -> Vec<u32> {
     upper
 }
 
-/// Two windows with a bound each: nine rounds, the most that there are.
-fn closing() -> Case {
-    let (mut upper, mut lower) = (vec![LIMIT; 256], vec![0; 256]);
-    upper[4] = 200_000;
-    lower[252] = 10_120_000;
+fn closing(name: &'static str, upper: Vec<u32>, lower: Vec<u32>) -> Case {
     Case {
-        name: "closing, 256, 9 rounds",
+        name,
         calls: 20,
         run: close,
         upper,
@@ -66,6 +62,31 @@ fn closing() -> Case {
         script: Vec::new(),
         text: Vec::new(),
     }
+}
+
+/// Two windows with a bound each: nine rounds, the most that there are.
+fn closing_nine_rounds() -> Case {
+    let (mut upper, mut lower) = (vec![LIMIT; 256], vec![0; 256]);
+    upper[4] = 200_000;
+    lower[252] = 10_120_000;
+    closing("closing, 256, 9 rounds", upper, lower)
+}
+
+/// Ten constraints, as engineers write them: three rounds.
+fn closing_a_text() -> Case {
+    let text = b"window,least,most\r\n1,0,12\r\n2,0,20\r\n5,10,45\r\n10,40,80\r\n20,100,150\r\n40,220,290\r\n80,460,560\r\n\
+                 128,750,880\r\n192,1140,1310\r\n256,1530,1740\r\n";
+    let (mut upper, mut lower) = (vec![0; 256], vec![0; 256]);
+    assert_eq!(Product.read(text, &mut upper, &mut lower), 256);
+    let (mut closed_upper, mut closed_lower) = (upper.clone(), lower.clone());
+    assert_eq!(Product.close(&upper, &lower, &mut closed_upper, &mut closed_lower), 3);
+    closing("closing, 256, 3 rounds", upper, lower)
+}
+
+/// Curves that are closed already: the one round that finds nothing to change.
+fn closing_closed_curves() -> Case {
+    let (upper, lower) = curves(256);
+    closing("closing, 256, closed", upper, lower)
 }
 
 /// Closed curves about 5 in 2 ticks, with room for a burst: each tick has several counts to choose from.
@@ -120,7 +141,9 @@ fn reading() -> Case {
 
 pub fn all() -> Vec<Case> {
     vec![
-        closing(),
+        closing_nine_rounds(),
+        closing_a_text(),
+        closing_closed_curves(),
         monitor("monitor tick, 256", 256),
         monitor("monitor tick, 16", 16),
         generator("generator tick, 256", 256),

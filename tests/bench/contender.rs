@@ -27,7 +27,7 @@ pub fn all() -> Vec<Contender> {
             read: |text, upper, lower| Product.read(text, upper, lower),
         },
         Contender {
-            name: "same",
+            name: "plain",
             close: plain::close,
             judge: plain::judge,
             generate: plain::generate,

@@ -1,6 +1,7 @@
-//! The fastest forms that were found: closing with the windows of one block side by side in registers and the parts outside, scripts on
-//! running sums without an exit in the middle, reading in one pass with no search for the ends of lines. All are inlined into the
-//! builds that use them.
+//! The fastest forms that were found, in integers: closing with the windows of one block side by side in registers and the parts outside,
+//! scripts on running sums without an exit in the middle, reading in one pass with no search for the ends of lines. All are inlined into
+//! the builds that use them. Closing compares integers, where the product compares floats: it stays so, as the measure that earlier
+//! ratios were taken by.
 
 use crate::plain;
 use crate::ring::Ring;

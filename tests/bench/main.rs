@@ -1,5 +1,5 @@
-//! What the product's operations take, called over its C boundary, against the same algorithms in plain Rust and against the fastest
-//! forms that were found. Times differ from run to run; the ratios of one run are what counts, so the contenders take turns.
+//! What the product's operations take, called over its C boundary, against plain Rust and against the fastest forms in integers that were
+//! found. Times differ from run to run; the ratios of one run are what counts, so the contenders take turns.
 //!
 //!     bench [REPETITIONS]
 //!

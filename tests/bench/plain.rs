@@ -1,5 +1,6 @@
-//! The same algorithms as a plain Rust program would have them: for each window its candidates, one after the other, in 32 bits; states
+//! The operations as a plain Rust program would have them: for each window its candidates, one after the other, in 32 bits; states
 //! that go in and come out by value and are asked about at each tick; one pass over the text. No loop that matters has a bounds check.
+//! All but closing are the product's own algorithms.
 
 use crate::subject::{
     refused, ALREADY_FAILED, HEADER, LIMIT, LONGEST_HORIZON, LONGEST_TEXT, NO_COUNT, PASSED, TEXT_LIMIT, TOO_FEW, TOO_MANY,
