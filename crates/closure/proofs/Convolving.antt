@@ -11,7 +11,7 @@ use Rattle.closure.specs.declared.convolution.Four.{Four}
 use Rattle.closure.specs.Steps.{noFigure, AllComparable, Normal, SumsWithin, AllNormal, inRow, IsRow}
 use Rattle.closure.specs.Steps.{falling, smallestOfFive, loweredToSums, convolved}
 use Rattle.closure.proofs.Rows.{sum-normal}
-use Rattle.closure.proofs.Passes.{part-at, part-length, behind-kept, behind-new, Least, least-is, least-at}
+use Rattle.closure.proofs.Passes.{part-at, part-length, behind-kept, behind-new, one-of-four, Least, least-is, least-at}
 use Rattle.closure.proofs.Passes.{aim, Lowered, lowered-none, lowered-comparable, lowered-turn, lowered-all}
 
 module _ (own found : List ℕ) where
@@ -161,24 +161,18 @@ module _ (own found : List ℕ) (row : IsRow (length found) own) (within : SumsW
             | yes l ↦ inl (h .0, l, h .2)
             | no l ↦
                 let m = lowest d (omega arith) v in
-                inr (elim (decLe k a) [
-                  | yes i ↦ is-sum (d - a + 3) (a + 3) (omega arith) (omega arith) (m .fourth)
-                  | no i ↦
-                      elim (decLe k (a + 1)) [
-                        | yes j ↦ is-sum (d - a + 2) (a + 3 + 1) (omega arith) (omega arith) (m .third)
-                        | no j ↦
-                            elim (decLe k (a + 2)) [
-                              | yes j′ ↦ is-sum (d - a + 1) (a + 3 + 2) (omega arith) (omega arith) (m .second)
-                              | no j′ ↦ is-sum (d - a) (a + 3 + 3) (omega arith) (omega arith) (m .first)
-                            ]
-                      ]
-                ])
+                inr (one-of-four (λ x. x + x ≤ d → figure 0 left d ≤ sumOf own found d x) a k (omega arith) (h .1)
+                (is-sum a (d - a + 3) (a + 3) ((λ y. omega arith), omega arith) (m .fourth))
+                (is-sum (a + 1) (d - a + 2) (a + 3 + 1) ((λ y. omega arith), omega arith) (m .third))
+                (is-sum (a + 2) (d - a + 1) (a + 3 + 2) ((λ y. omega arith), omega arith) (m .second))
+                (is-sum (a + 3) (d - a) (a + 3 + 3) ((λ y. omega arith), omega arith) (m .first))
+                (h .2))
           ]
         where
-          -- One of the four is the sum for k.
-          is-sum : (i j : ℕ) → d - k + 3 ≡ i → k + 3 ≡ j → figure 0 left d ≤ getD own i 0 + getD own j 0
-              → figure 0 left d ≤ sumOf own found d k
-          is-sum i j e e′ b = omega (arith, ap (λ x. getD own x 0) e, ap (λ x. getD own x 0) e′)
+          -- One of the four is the sum for x.
+          is-sum : (x i j : ℕ) → (x ≤ d → d - x + 3 ≡ i) × (x + 3 ≡ j) → figure 0 left d ≤ getD own i 0 + getD own j 0
+              → x + x ≤ d → figure 0 left d ≤ sumOf own found d x
+          is-sum x i j e b l = omega (arith, ap (λ y. getD own y 0) (e .0 (omega arith)), ap (λ y. getD own y 0) (e .1))
 
       pub convolving-goes-on : Convolving own found (a + 4) left
       convolving-goes-on =

@@ -12,7 +12,7 @@ use Rattle.closure.specs.declared.convolution.Four.{Four}
 use Rattle.closure.specs.Steps.{AllComparable, Normal, DifferencesWithin, AllNormal, inRow, IsRow}
 use Rattle.closure.specs.Steps.{rising, smallestOfFive, loweredToSums, deconvolved}
 use Rattle.closure.proofs.Rows.{sum-normal}
-use Rattle.closure.proofs.Passes.{part-at, before-kept, before-new, Least, least-is, least-at}
+use Rattle.closure.proofs.Passes.{part-at, before-kept, before-new, one-of-four, Least, least-is, least-at}
 use Rattle.closure.proofs.Passes.{aim, Lowered, lowered-none, lowered-comparable, lowered-turn, lowered-all}
 
 module _ (own other found : List ℕ) where
@@ -146,22 +146,9 @@ module _ (own other found : List ℕ) (row : IsRow (length found) own) (row′ :
             | yes l ↦ inl (h .0, l, h .2)
             | no l ↦
                 let m = lowest d u (omega arith) in
-                inr (elim (decLe k t) [
-                  | yes i ↦ is-one t (omega arith) (m .first)
-                  | no i ↦
-                      elim (decLe k (t + 1)) [
-                        | yes j ↦ is-one (t + 1) (omega arith) (m .second)
-                        | no j ↦
-                            elim (decLe k (t + 2)) [
-                              | yes j′ ↦ is-one (t + 2) (omega arith) (m .third)
-                              | no j′ ↦ is-one (t + 3) (omega arith) (m .fourth)
-                            ]
-                      ]
-                ])
+                inr (one-of-four (λ x. figure 0 left d ≤ difference d x) t k (omega arith) (h .1)
+                (m .first) (m .second) (m .third) (m .fourth))
           ]
-        where
-          is-one : (x : ℕ) → k ≡ x → figure 0 left d ≤ difference d x → figure 0 left d ≤ difference d k
-          is-one x i b = omega (arith, ap (difference d) i)
 
       pub deconvolving-goes-on : Deconvolving own other found (t + 4) left
       deconvolving-goes-on =

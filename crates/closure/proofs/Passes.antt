@@ -1,6 +1,6 @@
 -- Laws over plain lists for the passes of a round: the best of each window so far is at least the figure that is aimed at, and at most what
 -- has been looked at, in any order and however often. Assumes nothing.
-use Rattle.laws.proofs.Base.{ℕ, suc, _+_, _-_, _≤_, _<_, min, _≡_, refl, sym, ap, _∙_, List, _++_, _⊎_, ⊎-elim}
+use Rattle.laws.proofs.Base.{ℕ, suc, _+_, _-_, _≤_, _<_, min, _≡_, refl, sym, ap, _∙_, List, _++_, _⊎_, ⊎-elim, subst, decLe}
 use Rattle.laws.proofs.Base.{arith, length, getD, take, drop, List·getD-append, getD-drop, length-drop, length-take-le}
 use lib.ListN.{length-take}
 use lib.Seq.{getD-take, getD-append-add}
@@ -56,6 +56,25 @@ module _ (s : ℕ) (xs ys : List ℕ) (d : ℕ) (p : 1 ≤ d) where
       ∙ figure-entry 0 xs d p
 
 -- ---- four at once
+-- A number that is not below t, but below t + 4, is one of four.
+pub one-of-four : (P : ℕ → Type 0) (t k : ℕ) → t ≤ k → k < t + 4 → P t → P (t + 1) → P (t + 2) → P (t + 3) → P k
+one-of-four P t k l m p₀ p₁ p₂ p₃ =
+    elim (decLe k t) [
+      | yes h ↦ is t (omega arith) p₀
+      | no h ↦
+          elim (decLe k (t + 1)) [
+            | yes i ↦ is (t + 1) (omega arith) p₁
+            | no i ↦
+                elim (decLe k (t + 2)) [
+                  | yes j ↦ is (t + 2) (omega arith) p₂
+                  | no j ↦ is (t + 3) (omega arith) p₃
+                ]
+          ]
+    ]
+  where
+    is : (x : ℕ) → x ≡ k → P x → P k
+    is x e p = subst P e p
+
 -- m is the smallest of h and four others.
 pub record Least (m h c₀ c₁ c₂ c₃ : ℕ) : Type 0 where
   pub kept : m ≤ h

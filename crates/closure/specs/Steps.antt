@@ -9,7 +9,7 @@ use Rattle.laws.specs.Tests.{Tells, Each}
 use Rattle.curves.specs.Pairs.{Pair, horizon, figure}
 use Rattle.curves.specs.Rounds.{whole, cutOff, round, figuresOf, Arrives, Crosses}
 use Rattle.bounds.specs.Bounds.{maxHorizon, figureLimit, question4}
-use Rattle.closure.specs.Widths.{sumLimit, HalfWidth}
+use Rattle.closure.specs.Widths.{sumLimit, EveryTwo, HalfWidth}
 use Rattle.closure.specs.declared.Closing.{Closing}
 use Rattle.closure.specs.declared.Closing.the-variants as closing
 use Rattle.closure.specs.declared.convolution.Four.{Four}
@@ -65,8 +65,7 @@ pub record IsRow (H : ℕ) (row : List ℕ) : Type 0 where
 -- 33,553,920, and with the differences of two rows, where it is 16,776,960.
 abbrev pub WithinOfTwo : ℕ → ℕ → List ℕ → List ℕ → Type 0
 WithinOfTwo n H own other =
-    (a b : ℕ) → 1 ≤ a → a ≤ H → 1 ≤ b → b ≤ H
-    → (lift + lift ≤ inRow own a + inRow other b + n) × (inRow own a + inRow other b ≤ lift + lift + n)
+    EveryTwo H (λ a b. (lift + lift ≤ inRow own a + inRow other b + n) × (inRow own a + inRow other b ≤ lift + lift + n))
 
 abbrev pub SumsWithin : ℕ → List ℕ → Type 0
 SumsWithin H own = WithinOfTwo sumLimit H own own

@@ -10,16 +10,18 @@ use Rattle.bounds.specs.Bounds.{figureLimit, Bounded}
 abbrev pub sumLimit : ℕ
 sumLimit = 33_553_920
 
+-- Said of every two windows up to the horizon, a and b ticks long, the same one twice included.
+abbrev pub EveryTwo : ℕ → (ℕ → ℕ → Type 0) → Type 0
+EveryTwo H P = (a b : ℕ) → 1 ≤ a → a ≤ H → 1 ≤ b → b ≤ H → P a b
+
 -- No sum of two figures of one curve passes 33,553,920, and no figure of one curve less a figure of the other falls below −16,776,960.
 pub record HalfWidth (c : Curves ℤ) : Type 0 where
-  pub upperSums : (a b : ℕ) → 1 ≤ a → a ≤ horizon c → 1 ≤ b → b ≤ horizon c
-      → (figure (pos 0) (c .upper) a +ℤ figure (pos 0) (c .upper) b) ≤ℤ pos sumLimit
-  pub lowerSums : (a b : ℕ) → 1 ≤ a → a ≤ horizon c → 1 ≤ b → b ≤ horizon c
-      → (figure (pos 0) (c .lower) a +ℤ figure (pos 0) (c .lower) b) ≤ℤ pos sumLimit
-  pub upperDifferences : (a b : ℕ) → 1 ≤ a → a ≤ horizon c → 1 ≤ b → b ≤ horizon c
-      → negℤ (pos figureLimit) ≤ℤ (figure (pos 0) (c .upper) a -ℤ figure (pos 0) (c .lower) b)
-  pub lowerDifferences : (a b : ℕ) → 1 ≤ a → a ≤ horizon c → 1 ≤ b → b ≤ horizon c
-      → negℤ (pos figureLimit) ≤ℤ (figure (pos 0) (c .lower) a -ℤ figure (pos 0) (c .upper) b)
+  pub upperSums : EveryTwo (horizon c) (λ a b. (figure (pos 0) (c .upper) a +ℤ figure (pos 0) (c .upper) b) ≤ℤ pos sumLimit)
+  pub lowerSums : EveryTwo (horizon c) (λ a b. (figure (pos 0) (c .lower) a +ℤ figure (pos 0) (c .lower) b) ≤ℤ pos sumLimit)
+  pub upperDifferences
+      : EveryTwo (horizon c) (λ a b. negℤ (pos figureLimit) ≤ℤ (figure (pos 0) (c .upper) a -ℤ figure (pos 0) (c .lower) b))
+  pub lowerDifferences
+      : EveryTwo (horizon c) (λ a b. negℤ (pos figureLimit) ≤ℤ (figure (pos 0) (c .lower) a -ℤ figure (pos 0) (c .upper) b))
 
 -- A round is run after n others: each of them changed a figure, and no least has come above its ceiling.
 abbrev pub RunAfter : Pair → ℕ → Type 0
