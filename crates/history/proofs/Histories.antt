@@ -21,7 +21,7 @@ use Rattle.history.specs.declared.Opening.{Opening}
 use Rattle.history.proofs.Opening.{the-type}
 use Rattle.history.specs.declared.Opening.the-variants.{Opened}
 use Rattle.history.specs.declared.Opening.the-variants as opening
-use Rattle.history.specs.States.{Legal, viewOf, entries}
+use Rattle.history.specs.States.{Legal, viewOf, entries, historyOf}
 use Rattle.history.specs.Opening.{opening, fresh, zeroHistory, Begun}
 use Rattle.history.specs.Answers.{openingReply}
 use Rattle.history.specs.Steps.{openingFor, paddedTo, viewWith}
@@ -88,16 +88,12 @@ pub entries-padded : (us rest : List ℕ) (h : ℕ) → length us ≡ h → entr
 entries-padded us rest h e =
     entries-take h (us ++ rest) (omega (arith, e, length-append us rest)) ∙ take-at us rest h e
 
--- A history that holds no tick yet.
-abbrev freshHistory : ℕ → List ℕ → List ℕ → List ℕ → History
-freshHistory h us ls xs = record { horizon = h; upper = us; lower = ls; held = 0; ticks = xs }
-
 -- Three arrays of zeros make a history of zeros.
 pub zero-history-is
     : (us ls xs : List ℕ) → us ≡ replicate maxHorizon 0 → ls ≡ replicate maxHorizon 0 → xs ≡ replicate maxHorizon 0
-    → freshHistory 0 us ls xs ≡ zeroHistory
+    → historyOf 0 us ls 0 xs ≡ zeroHistory
 unfolding zeroHistory
-zero-history-is us ls xs u l x = λ i. freshHistory 0 (u i) (l i) (x i)
+zero-history-is us ls xs u l x = λ i. historyOf 0 (u i) (l i) 0 (x i)
 
 -- ---- the answer of an opening
 module _ (p : Pair) where
@@ -129,7 +125,7 @@ module _ (p : Pair) (h : History) (o : Opening) (e : openingReply o ≡ opening 
 -- It is not refused: the figures are held, and no tick.
 pub unbegun-is
     : (us ls upper lower ticks : List ℕ) → upper ≡ paddedTo us → lower ≡ paddedTo ls → length ls ≡ length us
-    → viewOf (freshHistory (length us) upper lower ticks) ≡ fresh (pairOf us ls)
+    → viewOf (historyOf (length us) upper lower 0 ticks) ≡ fresh (pairOf us ls)
 unfolding table
 unbegun-is us ls upper lower ticks u l e =
     λ i. viewWith

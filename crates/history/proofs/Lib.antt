@@ -1,4 +1,4 @@
 -- What is proved of histories.
 pub mod Said
-mod Histories
+pub mod Histories
 pub mod Slicing

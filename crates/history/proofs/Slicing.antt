@@ -9,7 +9,7 @@ use Rattle.curves.proofs.NextTick.{length-then}
 use Rattle.bounds.specs.Bounds.{maxHorizon}
 use Rattle.lists.specs.Pushing.{behind, heldWith, Pushed}
 use Rattle.history.specs.declared.History.{History}
-use Rattle.history.specs.States.{View, entries, viewOf, added, Legal}
+use Rattle.history.specs.States.{View, entries, historyOf, viewOf, added, Legal}
 use Rattle.history.specs.Steps.{Slices, viewWith}
 use Rattle.history.proofs.Histories.{entries-take, entries-padded, horizon-seen, legal-sizes}
 
@@ -82,13 +82,7 @@ module _ (h : History) (A : Arrays h) (L : Legal (viewOf h)) where
       λ i. newest (many i) (then (same i) x)
 
   pub added-is : (x : ℕ) (left : List ℕ) (n : ℕ) → Pushed places (h .held) x left n
-      → viewOf (record {
-        horizon = h .horizon;
-        upper = h .upper;
-        lower = h .lower;
-        held = n;
-        ticks = left ++ drop (h .horizon - 1) (h .ticks);
-      }) ≡ added (viewOf h) x
+      → viewOf (historyOf (h .horizon) (h .upper) (h .lower) n (left ++ drop (h .horizon - 1) (h .ticks))) ≡ added (viewOf h) x
   added-is x left n p = ap (λ ys. record { pair = viewOf h .pair; held = ys }) (front ∙ held-newest x)
     where
       kept : List ℕ

@@ -16,6 +16,10 @@ pub record View : Type 0 where
   pub pair : Pair
   pub held : List ℕ
 
+-- A history of a horizon, ceilings and leasts, a number of held ticks and an array of them.
+abbrev pub historyOf : ℕ → List ℕ → List ℕ → ℕ → List ℕ → History
+historyOf h us ls k xs = record { horizon = h; upper = us; lower = ls; held = k; ticks = xs }
+
 -- The first n entries of an array; one that it does not have counts as 0, and none after them counts.
 abbrev pub entries : ℕ → List ℕ → List ℕ
 entries n xs = table (figure 0 xs) n

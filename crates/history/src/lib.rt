@@ -3,14 +3,14 @@
 use bounds::Asked;
 ghost use mathlib.Core.Path.{_≡_};
 ghost use Prim.Native.Nat.{_≤_};
-ghost use lib.ListN.{length, replicate};
+ghost use lib.ListN.{length};
 ghost use Rattle.curves.specs.Pairs.{pairOf};
 ghost use Rattle.curves.specs.Questions.{AllYes};
 ghost use Rattle.bounds.specs.Bounds.{maxHorizon, pairQuestions};
 ghost use Rattle.history.specs.States.{viewOf, legality};
 ghost use Rattle.history.specs.Opening.{opening, fresh, zeroHistory, Begun};
 ghost use Rattle.history.specs.Answers.{openingReply, legalityReply};
-ghost use Rattle.history.specs.Promises.{HistoryOpened};
+ghost use Rattle.history.specs.Promises.{HistoryOpened, LegalityAsked};
 ghost use Rattle.history.specs.Steps.{openingFor, paddedTo};
 
 // The longest horizon.
@@ -62,24 +62,54 @@ impl History {
         OpenedHistory { opening, history }
     }
 
+    // The history that a refused opening hands out: every number and every entry is 0. It fails question 12.
+    pub fn zero() -> History
+        ensures { λ r. ⌜ r ≡ zeroHistory ⌝ }
+    {
+        let upper = lists::zeros();
+        let lower = lists::zeros();
+        let ticks = lists::zeros();
+        History {
+            horizon: 0,
+            upper,
+            lower,
+            held: 0,
+            ticks,
+        }
+    }
+
     // Question 12.
     pub fn legality(self) -> Legality
         ensures { λ r. ⌜ legalityReply r ≡ legality (viewOf self) ⌝ }
     {
-        let horizon = self.horizon;
-        if MAX_HORIZON < horizon {
-            return Legality::BadState;
-        }
-        if horizon <= self.held {
-            return Legality::BadState;
-        }
         let upper = self.upper;
         let lower = self.lower;
-        if !(bounds::within_limit(&upper[..horizon]) & bounds::within_limit(&lower[..horizon])) {
-            return Legality::BadState;
-        }
-        Legality::Legal
+        ask_legality(self.horizon, &upper, &lower, self.held)
     }
+}
+
+// Question 12, asked of the numbers and arrays of a history, for those who have taken them out of it. The ticks have no part in it.
+pub fn ask_legality(
+    horizon: usize,
+    upper: &[u32; MAX_HORIZON],
+    lower: &[u32; MAX_HORIZON],
+    held: usize,
+) -> Legality
+    ensures { λ r. ⌜ LegalityAsked horizon (now (upper .entry)) (now (lower .entry)) held r ⌝ }
+{
+    if MAX_HORIZON < horizon {
+        return Legality::BadState;
+    }
+    if horizon <= held {
+        return Legality::BadState;
+    }
+    let upper_figures: &[u32] = upper;
+    let lower_figures: &[u32] = lower;
+    if !(bounds::within_limit(&upper_figures[..horizon])
+        & bounds::within_limit(&lower_figures[..horizon])) {
+        return Legality::BadState;
+    }
+    Legality::Legal
 }
 
 // Questions 1, 2 and 4.
@@ -109,7 +139,7 @@ fn begin(answer: Opening, upper: &[u32], lower: &[u32]) -> History
 {
     match answer {
         Opening::Opened => unbegun(upper, lower),
-        _ => zero_history(),
+        _ => History::zero(),
     }
 }
 
@@ -121,7 +151,7 @@ fn unbegun(upper: &[u32], lower: &[u32]) -> History
     let horizon = upper.len();
     let upper_figures = padded(upper);
     let lower_figures = padded(lower);
-    let ticks = zeros();
+    let ticks = lists::zeros();
     History {
         horizon,
         upper: upper_figures,
@@ -131,35 +161,12 @@ fn unbegun(upper: &[u32], lower: &[u32]) -> History
     }
 }
 
-// That of a refused opening. It fails question 12.
-fn zero_history() -> History
-    ensures { λ r. ⌜ r ≡ zeroHistory ⌝ }
-{
-    let upper = zeros();
-    let lower = zeros();
-    let ticks = zeros();
-    History {
-        horizon: 0,
-        upper,
-        lower,
-        held: 0,
-        ticks,
-    }
-}
-
-// No figures, or no ticks.
-fn zeros() -> [u32; MAX_HORIZON]
-    ensures { λ r. ⌜ r ≡ replicate maxHorizon 0 ⌝ }
-{
-    [0u32; MAX_HORIZON]
-}
-
 // An array that begins with these figures.
 fn padded(figures: &[u32]) -> [u32; MAX_HORIZON]
     requires { ⌜ length (now figures) ≤ maxHorizon ⌝ }
     ensures { λ r. ⌜ r ≡ paddedTo (now (figures .entry)) ⌝ }
 {
-    let mut out = zeros();
+    let mut out = lists::zeros();
     lists::copy(figures, &mut out);
     out
 }

@@ -2,10 +2,20 @@
 
 ghost use mathlib.Core.Path.{_≡_};
 ghost use Prim.Native.Nat.{_≤_};
-ghost use lib.ListN.{length};
+ghost use lib.ListN.{length, replicate};
 ghost use Rattle.lists.specs.Copying.{Copied};
 ghost use Rattle.lists.specs.Pushing.{Pushed};
 ghost use Rattle.lists.specs.Steps.{shiftedDown};
+
+// As many entries as the longest horizon has windows.
+const MAX_HORIZON: usize = 256;
+
+// No figures yet, or no ticks: an array of 0 alone.
+pub fn zeros() -> [u32; MAX_HORIZON]
+    ensures { λ r. ⌜ r ≡ replicate 256 0 ⌝ }
+{
+    [0u32; MAX_HORIZON]
+}
 
 // Puts the figures of `from` over those of `to`, as many as there is room for, and tells whether they stood there already: one loop for
 // both, as a round that changes nothing is the last.

@@ -3,13 +3,15 @@ use Rattle.laws.proofs.Base.{_≡_, refl, true, false, [], _∷_, ⊎-map, Dec�
 use Rattle.laws.proofs.Search.{every, every?}
 use Rattle.curves.specs.Streams.{sum}
 use Rattle.curves.specs.Pairs.{Pair, pairOf, figure}
-use Rattle.curves.specs.Ticks.{passed, tooMany}
+use Rattle.curves.specs.Ticks.{passed, tooMany, tooFew}
 use Rattle.curves.specs.Questions.{ask, result, refusal}
 use Rattle.curves.proofs.Verdicts.{inside?, judged?, find, rejected, verdict?}
 use Rattle.history.specs.States.{View, legal?}
-use Rattle.monitor.specs.Monitoring.{monitorView, judging, judged, alreadyFailed}
+use Rattle.history.specs.Opening.{fresh}
+use Rattle.monitor.specs.Monitoring.{MonitorView, monitorView, legalMonitor?, judging, judged, lost, alreadyFailed}
 use Rattle.monitor.specs.Calls.{rulings}
 
+-- Closed curves: closed again they stay as they are.
 abbrev pair : Pair
 pair = pairOf (2 ∷ 3 ∷ 5 ∷ 5 ∷ []) (0 ∷ 0 ∷ 1 ∷ 3 ∷ [])
 
@@ -23,12 +25,40 @@ overfull = record { pair = pair; held = 2 ∷ 1 ∷ 0 ∷ 2 ∷ [] }
 
 -- A rejected tick is not added, and nothing passes after it.
 fails-for-good
-    : rulings (monitorView some false) (2 ∷ 3 ∷ 0 ∷ [])
+    : rulings (monitorView some pair false) (2 ∷ 3 ∷ 0 ∷ [])
     ≡ result (judged passed) ∷ result (judged (tooMany 1)) ∷ result alreadyFailed ∷ []
-unfolding rulings judging ask legal? ⊎-map every every? Dec·and decLe decLt figure verdict? find rejected inside? judged? sum
+unfolding rulings judging ask legalMonitor? legal? ⊎-map every every? Dec·and decLe decLt figure verdict? find rejected inside? judged? sum
 fails-for-good = refl
 
--- 12 comes before 'already failed'.
-overfull-first : judging (monitorView overfull true) 0 ≡ refusal 12
-unfolding judging ask legal? ⊎-map every every? Dec·and decLe decLt figure
+-- 12 comes before 'already failed', for as many held ticks as the horizon and for closed figures above the limit.
+overfull-first : judging (monitorView overfull pair true) 0 ≡ refusal 12
+unfolding judging ask legalMonitor? legal? ⊎-map every every? Dec·and decLe decLt figure
 overfull-first = refl
+
+closed-limit-first : judging (monitorView some (pairOf (2 ∷ 3 ∷ 5 ∷ 5 ∷ []) (0 ∷ 0 ∷ 1 ∷ 16_776_961 ∷ [])) true) 0 ≡ refusal 12
+unfolding judging ask legalMonitor? legal? ⊎-map every every? Dec·and decLe decLt figure
+closed-limit-first = refl
+
+-- The published triples, and their closure: one message a tick. Without one the stream is lost, although no window of the pair as given
+-- is broken; with four it has too many, which goes before.
+abbrev published : MonitorView
+published =
+    monitorView (fresh (pairOf (3 ∷ 6 ∷ 3 ∷ 12 ∷ 9 ∷ []) (0 ∷ 0 ∷ 0 ∷ 0 ∷ 5 ∷ [])))
+    (pairOf (1 ∷ 2 ∷ 3 ∷ 4 ∷ 5 ∷ []) (1 ∷ 2 ∷ 3 ∷ 4 ∷ 5 ∷ [])) false
+
+lost-at-once : rulings published (1 ∷ 0 ∷ 1 ∷ []) ≡ result (judged passed) ∷ result lost ∷ result alreadyFailed ∷ []
+unfolding rulings judging ask legalMonitor? legal? ⊎-map every every? Dec·and decLe decLt figure verdict? find rejected inside? judged? sum
+lost-at-once = refl
+
+too-many-first : judging published 4 ≡ result (judged (tooMany 1))
+unfolding judging ask legalMonitor? legal? ⊎-map every every? Dec·and decLe decLt figure verdict? find rejected inside? judged? sum
+too-many-first = refl
+
+-- In a state that no opening made the closed figures may be the looser ones: then nothing is lost, and those given decide.
+abbrev looser : MonitorView
+looser = monitorView some (pairOf (9 ∷ 9 ∷ 9 ∷ 9 ∷ []) (0 ∷ 0 ∷ 0 ∷ 0 ∷ [])) false
+
+looser-passes
+    : rulings looser (0 ∷ 0 ∷ 0 ∷ []) ≡ result (judged passed) ∷ result (judged passed) ∷ result (judged (tooFew 3)) ∷ []
+unfolding rulings judging ask legalMonitor? legal? ⊎-map every every? Dec·and decLe decLt figure verdict? find rejected inside? judged? sum
+looser-passes = refl

@@ -5,16 +5,11 @@ use Rattle.curves.specs.Pairs.{Pair, pairOf, figure}
 use Rattle.curves.specs.Conformance.{TooMany, TooFew}
 use Rattle.curves.specs.Ticks.{then, last, Judged, Verdict, passed, tooMany, tooFew, Right}
 use Rattle.curves.specs.Questions.{result}
-use Rattle.curves.proofs.Asked.{result-from}
 use Rattle.curves.proofs.NextTick.{last-none, last-more, length-then, last-next}
 use Rattle.curves.proofs.Verdicts.{KeptTo, kept-none, kept-more, shortest, verdict-is}
 use Rattle.history.proofs.Slicing.{judged-next}
 use Rattle.history.specs.Steps.{Slices, viewWith}
-use Rattle.monitor.specs.declared.Verdict as verdict
-use Rattle.monitor.specs.declared.Verdict.the-variants as variant
-use Rattle.monitor.specs.Monitoring.{MonitorView, judged, verdictOn, judging}
-use Rattle.monitor.specs.Answers.{verdictReply}
-use Rattle.monitor.specs.Steps.{AddsWhere}
+use Rattle.monitor.specs.Monitoring.{judged, verdictOn}
 
 module _ (us ls xs : List ℕ) (count : ℕ) where
   abbrev p : Pair
@@ -91,12 +86,3 @@ module _ (us ls xs : List ℕ) (count : ℕ) where
     found-none m f h =
         right-found passed
         (λ e j. one-more m f e (let b : e ≤ length ys = j .begun in omega (arith, length-then xs count)) j)
-
--- ---- a tick passes only where the state has its form
-pub adds-where : (w : MonitorView) (x : ℕ) (v : verdict.Verdict) → verdictReply v ≡ judging w x → AddsWhere v (w .view)
-unfolding judging
-adds-where w x variant.Passed e = result-from _ _ _ (sym e) .0 .0
-adds-where w x (variant.TooMany d) e = tt
-adds-where w x (variant.TooFew d) e = tt
-adds-where w x variant.AlreadyFailed e = tt
-adds-where w x variant.BadState e = tt

@@ -1,20 +1,20 @@
 -- Lists of ticks: each gets the state that the one before it left.
 use Prim.Native.Nat.{ℕ}
 use mathlib.Core.List.{List, [], _∷_}
-use mathlib.Core.Bool.{true, false}
+use mathlib.Core.Bool.{true}
 use Rattle.curves.specs.Ticks.{passed, tooMany, tooFew}
 use Rattle.curves.specs.Questions.{Reply, result, refusal}
-use Rattle.history.specs.States.{added}
 use Rattle.monitor.specs.declared.Monitor.{Monitor}
 use Rattle.monitor.specs.declared.Judgement.{Judgement}
-use Rattle.monitor.specs.Monitoring.{MonitorView, monitorView, Ruling, judged, alreadyFailed, judging}
+use Rattle.monitor.specs.Monitoring.{MonitorView, monitorView, Ruling, judged, lost, alreadyFailed, judging, passedOn}
 use Rattle.monitor.specs.Promises.{MonitorTicked}
 
 -- ---- by the view of a state
 abbrev pub monitorAfter : Reply Ruling → MonitorView → ℕ → MonitorView
-monitorAfter (result (judged passed)) w x = monitorView (added (w .view) x) false
-monitorAfter (result (judged (tooMany d))) w x = monitorView (w .view) true
-monitorAfter (result (judged (tooFew d))) w x = monitorView (w .view) true
+monitorAfter (result (judged passed)) w x = passedOn w x
+monitorAfter (result (judged (tooMany d))) w x = monitorView (w .view) (w .closed) true
+monitorAfter (result (judged (tooFew d))) w x = monitorView (w .view) (w .closed) true
+monitorAfter (result lost) w x = monitorView (w .view) (w .closed) true
 monitorAfter (result alreadyFailed) w x = w
 monitorAfter (refusal n) w x = w
 

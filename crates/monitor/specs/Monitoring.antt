@@ -1,49 +1,97 @@
--- A tick of the monitor, document 01's line monitor ("Monitor and maker").
+-- A tick of the monitor, document 01's line monitor ("Monitor and maker"), with request P2's verdict 'lost'.
 use Prim.Native.Nat.{ℕ}
 use mathlib.Core.Path.{_≡_}
 use mathlib.Core.Bool.{Bool, true, false, cond}
-use mathlib.Core.List.{[], _∷_}
+use mathlib.Core.List.{List, [], _∷_}
+use mathlib.Core.Logic.{Dec·and}
+use Rattle.curves.specs.Pairs.{Pair, pairOf}
 use Rattle.curves.specs.Ticks.{then, Verdict, passed, tooMany, tooFew, Right}
-use Rattle.curves.specs.Questions.{Reply, result, refusal, replyTo}
+use Rattle.curves.specs.Questions.{Question, Reply, result, refusal, replyTo}
 use Rattle.curves.proofs.Verdicts.{verdict?}
-use Rattle.history.specs.States.{View, viewOf, added, question12}
+use Rattle.history.specs.declared.History.{History}
+use Rattle.history.specs.States.{View, entries, viewOf, added, Legal, legal?}
 use Rattle.monitor.specs.declared.Monitor.{Monitor}
 
--- The view of a monitor's state: that of its history, and whether it has failed.
+-- The view of a monitor's state: that of its history, with the pair as given; the closed figures, up to the same horizon; and whether it
+-- has failed.
 pub record MonitorView : Type 0 where
   pub view : View
+  pub closed : Pair
   pub failed : Bool
 
-abbrev pub monitorView : View → Bool → MonitorView
-monitorView v b = record { view = v; failed = b }
+abbrev pub monitorView : View → Pair → Bool → MonitorView
+monitorView v q b = record { view = v; closed = q; failed = b }
 
 abbrev pub monitorViewOf : Monitor → MonitorView
-monitorViewOf m = monitorView (viewOf (m .history)) (m .failed)
+monitorViewOf m =
+    let h : ℕ = m .history .horizon in
+    monitorView (viewOf (m .history)) (pairOf (entries h (m .«closed_upper»)) (entries h (m .«closed_lower»))) (m .failed)
 
--- Equality of states: of the views, so of the horizon and the figures up to it, of the held ticks as a list, and of the mark.
+-- Equality of states: of the views, so of the horizon and the figures up to it, given and closed, of the held ticks as a list, and of the
+-- mark.
 abbrev pub EqualMonitors : Monitor → Monitor → Type 0
 EqualMonitors m m′ = monitorViewOf m ≡ monitorViewOf m′
 
--- The verdict on a tick with the count x: the one that is `Right`.
+-- The held ticks with the closed figures in place of those given.
+abbrev pub closedView : MonitorView → View
+closedView w = record { pair = w .closed; held = w .view .held }
+
+-- 12. The state has its form with the figures as given, and with the closed ones: none of these is above the limit either.
+pub record LegalMonitor (w : MonitorView) : Type 0 where
+  pub given : Legal (w .view)
+  pub closed : Legal (closedView w)
+
+unfoldable pub legalMonitor? : (w : MonitorView) → Dec (LegalMonitor w)
+legalMonitor? w =
+    elim (Dec·and (legal? (w .view)) (legal? (closedView w))) [
+      | yes h ↦ yes (record { given = h .0; closed = h .1 })
+      | no h ↦ no (λ l. h (l .given, l .closed))
+    ]
+
+abbrev pub monitorQuestion12 : MonitorView → Question
+monitorQuestion12 w = record { number = 12; asked = LegalMonitor w; answered = legalMonitor? w }
+
+-- The verdict on a tick with the count x by the figures of a view: the one that is `Right`.
 abbrev pub verdictOn : View → ℕ → Verdict
 verdictOn v x = let found : (w : Verdict) × Right (v .pair) (then (v .held) x) w = verdict? (v .pair) (then (v .held) x) in found .0
 
--- What a tick is answered: its verdict, or that the monitor has failed before.
+-- What a tick is answered: its verdict, that the stream is lost, or that the monitor has failed before.
 pub data Ruling : Type 0 where
   judged : Verdict → Ruling
+  lost : Ruling
   alreadyFailed : Ruling
 
+-- From the verdict by the figures as given and the one by the closed figures: a tick that passes the first alone is lost.
+abbrev pub ruled : Verdict → Verdict → Ruling
+ruled passed passed = judged passed
+ruled passed (tooMany d) = lost
+ruled passed (tooFew d) = lost
+ruled (tooMany d) v = judged (tooMany d)
+ruled (tooFew d) v = judged (tooFew d)
+
+abbrev pub rulingOn : MonitorView → ℕ → Ruling
+rulingOn w x = ruled (verdictOn (w .view) x) (verdictOn (closedView w) x)
+
 unfoldable pub judging : MonitorView → ℕ → Reply Ruling
-judging w x = replyTo (question12 (w .view) ∷ []) (λ yeses. cond (w .failed) alreadyFailed (judged (verdictOn (w .view) x)))
+judging w x = replyTo (monitorQuestion12 w ∷ []) (λ yeses. cond (w .failed) alreadyFailed (rulingOn w x))
+
+-- A monitor of a history, closed ceilings and leasts, and a mark.
+abbrev pub monitorOf : History → List ℕ → List ℕ → Bool → Monitor
+monitorOf h us ls b = record { history = h; «closed_upper» = us; «closed_lower» = ls; failed = b }
 
 -- The same state with its failed mark set.
 abbrev pub markedFailed : Monitor → Monitor
-markedFailed m = record { history = m .history; failed = true }
+markedFailed m = monitorOf (m .history) (m .«closed_upper») (m .«closed_lower») true
 
--- The next state. A passed tick is added, and what lies outside the next state's view is free; else every field and entry is settled.
+-- The view after a tick that passed: the tick is added, the closed figures stay.
+abbrev pub passedOn : MonitorView → ℕ → MonitorView
+passedOn w x = monitorView (added (w .view) x) (w .closed) false
+
+-- The next state. After a tick that passed, what lies outside the next state's view is free; else every field and entry is settled.
 abbrev pub MonitorNext : Reply Ruling → Monitor → ℕ → Monitor → Type 0
-MonitorNext (result (judged passed)) m x next = monitorViewOf next ≡ monitorView (added (viewOf (m .history)) x) false
+MonitorNext (result (judged passed)) m x next = monitorViewOf next ≡ passedOn (monitorViewOf m) x
 MonitorNext (result (judged (tooMany d))) m x next = next ≡ markedFailed m
 MonitorNext (result (judged (tooFew d))) m x next = next ≡ markedFailed m
+MonitorNext (result lost) m x next = next ≡ markedFailed m
 MonitorNext (result alreadyFailed) m x next = next ≡ m
 MonitorNext (refusal n) m x next = next ≡ m

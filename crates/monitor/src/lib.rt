@@ -1,25 +1,48 @@
 // The monitor (document 01's line monitor): judges each tick of a stream by the windows that end there.
 
+use closure::Closing;
 use history::History;
 use history::Legality;
 use history::Opening;
 ghost use mathlib.Core.Path.{_≡_};
 ghost use Rattle.curves.specs.Pairs.{pairOf};
 ghost use Rattle.curves.specs.Questions.{result};
-ghost use Rattle.history.specs.States.{viewOf, added, Legal};
+ghost use Rattle.history.specs.States.{historyOf};
 ghost use Rattle.history.specs.Steps.{Slices, viewWith};
-ghost use Rattle.monitor.specs.Monitoring.{monitorView, judged, verdictOn, judging, markedFailed, MonitorNext};
+ghost use Rattle.monitor.specs.Monitoring.{monitorOf, monitorViewOf, judged, verdictOn, ruled, judging};
+ghost use Rattle.monitor.specs.Opening.{zeroMonitor};
 ghost use Rattle.monitor.specs.Answers.{verdictReply};
 ghost use Rattle.monitor.specs.Promises.{MonitorOpened, MonitorTicked};
-ghost use Rattle.monitor.specs.Steps.{AddsWhere};
+ghost use Rattle.monitor.specs.Steps.{closedFor, openingFor, begunAs, HoldsWhere, Held, markAfter};
 
+// The longest horizon.
+const MAX_HORIZON: usize = 256;
+
+// Anyone may build one. Entries of the closed figures past the horizon have no effect.
 pub struct Monitor {
+    // The pair as given, and the held ticks.
     pub history: History,
+    // The figures of the closure; entry 0 for the window of one tick.
+    pub closed_upper: [u32; MAX_HORIZON],
+    pub closed_lower: [u32; MAX_HORIZON],
     pub failed: bool,
 }
 
+// What opening a monitor answers: the state is ready, or document 01's question is answered no.
+pub enum MonitorOpening {
+    Opened,
+    // 1: the upper list is not 1 to 256 long.
+    UpperLength,
+    // 2: the lower list has another length.
+    LowerLength,
+    // 4: a figure is above 16,776,960.
+    FigureLimit,
+    // 5: the pair has no closure; no unbounded stream conforms.
+    NoClosure,
+}
+
 pub struct OpenedMonitor {
-    pub opening: Opening,
+    pub opening: MonitorOpening,
     pub state: Monitor,
 }
 
@@ -29,6 +52,8 @@ pub enum Verdict {
     // The shortest window that ends at the tick and is outside its figures: it has too many, or too few.
     TooMany { window: usize },
     TooFew { window: usize },
+    // Every window that ends at the tick keeps its figures, and some is outside its closed ones: the stream cannot be extended without end.
+    Lost,
     // A tick before this one was rejected.
     AlreadyFailed,
     // 12: the state has no legal horizon, a figure above 16,776,960, or as many held ticks as its horizon or more.
@@ -41,54 +66,184 @@ pub struct Judgement {
 }
 
 impl Monitor {
-    // A monitor of the pair of `upper` and `lower`, entry 0 for the window of one tick.
+    // A monitor of the pair of `upper` and `lower`, entry 0 for the window of one tick; where the opening is refused, all of it is 0.
     pub fn open(upper: &[u32], lower: &[u32]) -> OpenedMonitor
         ensures { λ r. ⌜ MonitorOpened (pairOf (now (upper .entry)) (now (lower .entry))) r ⌝ }
     {
+        let mut closed_upper = lists::zeros();
+        let mut closed_lower = lists::zeros();
+        let closing = closure::close(upper, lower, &mut closed_upper, &mut closed_lower);
         let start = History::open(upper, lower);
-        let opening = start.opening;
+        let asked = start.opening;
         let history = start.history;
-        let failed = false;
-        OpenedMonitor {
-            opening,
-            state: Monitor { history, failed },
-        }
+        let opening = opening_for(asked, closing);
+        let state = begin(opening, history, closed_upper, closed_lower);
+        OpenedMonitor { opening, state }
     }
 
-    // Judges the next tick. It is added to the history where it passes; else the monitor has failed.
+    // Judges the next tick. It is added to the history where it passes; else the monitor has failed. Each array is taken out of the state
+    // once and put into the next one once: what lies between works on them where they are, as copies are most of what a tick costs.
     pub fn tick(self, count: u32) -> Judgement
         ensures { λ r. ⌜ MonitorTicked self count r ⌝ }
     {
-        let verdict = find_verdict(self.history, self.failed, count);
-        let next = advance(self, verdict, count);
-        Judgement { verdict, next }
+        let history = self.history;
+        let horizon = history.horizon;
+        let upper = history.upper;
+        let lower = history.lower;
+        let mut ticks = history.ticks;
+        let closed_upper = self.closed_upper;
+        let closed_lower = self.closed_lower;
+        let verdict = find_verdict(
+            horizon,
+            &upper,
+            &lower,
+            history.held,
+            &ticks,
+            &closed_upper,
+            &closed_lower,
+            self.failed,
+            count,
+        );
+        let held = hold(verdict, &mut ticks, horizon, history.held, count);
+        let failed = mark(verdict, self.failed);
+        let history = History {
+            horizon,
+            upper,
+            lower,
+            held,
+            ticks,
+        };
+        Judgement {
+            verdict,
+            next: Monitor {
+                history,
+                closed_upper,
+                closed_lower,
+                failed,
+            },
+        }
     }
 }
 
-// The verdict on the next tick. Question 12 comes before the failed mark.
-fn find_verdict(history: History, failed: bool, count: u32) -> Verdict
-    ensures { λ r. ⌜ verdictReply r ≡ judging (monitorView (viewOf history) failed) count ⌝ }
+// What an opening answers to what was found of the lists, and to what closing them answered.
+fn opening_for(asked: Opening, closing: Closing) -> MonitorOpening
+    ensures { λ r. ⌜ r ≡ openingFor asked closing ⌝ }
 {
-    let Legality::Legal = history.legality() else {
+    match asked {
+        Opening::Opened => closed_for(closing),
+        Opening::UpperLength => MonitorOpening::UpperLength,
+        Opening::LowerLength => MonitorOpening::LowerLength,
+        Opening::FigureLimit => MonitorOpening::FigureLimit,
+    }
+}
+
+// Where the lists pass questions 1, 2 and 4: the closing, with room for every horizon, is refused with 5 alone.
+fn closed_for(closing: Closing) -> MonitorOpening
+    ensures { λ r. ⌜ r ≡ closedFor closing ⌝ }
+{
+    match closing {
+        Closing::Closed { rounds: _ } => MonitorOpening::Opened,
+        _ => MonitorOpening::NoClosure,
+    }
+}
+
+// The monitor that an opening hands out.
+fn begin(
+    opening: MonitorOpening,
+    history: History,
+    closed_upper: [u32; MAX_HORIZON],
+    closed_lower: [u32; MAX_HORIZON],
+) -> Monitor
+    ensures { λ r. ⌜ r ≡ begunAs opening history «closed_upper» «closed_lower» ⌝ }
+{
+    match opening {
+        MonitorOpening::Opened => Monitor {
+            history,
+            closed_upper,
+            closed_lower,
+            failed: false,
+        },
+        _ => zero(),
+    }
+}
+
+// That of a refused opening. It fails question 12.
+fn zero() -> Monitor
+    ensures { λ r. ⌜ r ≡ zeroMonitor ⌝ }
+{
+    let history = History::zero();
+    let closed_upper = lists::zeros();
+    let closed_lower = lists::zeros();
+    Monitor {
+        history,
+        closed_upper,
+        closed_lower,
+        failed: false,
+    }
+}
+
+// The verdict on the next tick. Question 12, of the figures as given and of the closed ones, comes before the failed mark.
+fn find_verdict(
+    horizon: usize,
+    upper: &[u32; MAX_HORIZON],
+    lower: &[u32; MAX_HORIZON],
+    held: usize,
+    ticks: &[u32; MAX_HORIZON],
+    closed_upper: &[u32; MAX_HORIZON],
+    closed_lower: &[u32; MAX_HORIZON],
+    failed: bool,
+    count: u32,
+) -> Verdict
+    ensures { λ r. ⌜ verdictReply r ≡ judging (monitorViewOf (monitorOf (historyOf horizon (now (upper .entry)) (now (lower .entry)) held
+        (now (ticks .entry))) (now («closed_upper» .entry)) (now («closed_lower» .entry)) failed)) count ⌝ }
+{
+    let Legality::Legal = history::ask_legality(horizon, upper, lower, held) else {
+        return Verdict::BadState;
+    };
+    let Legality::Legal = history::ask_legality(horizon, closed_upper, closed_lower, held) else {
         return Verdict::BadState;
     };
     if failed {
         return Verdict::AlreadyFailed;
     }
-    judge_history(history, count)
+    let upper_figures: &[u32] = upper;
+    let lower_figures: &[u32] = lower;
+    let counts: &[u32] = ticks;
+    let closed_upper_figures: &[u32] = closed_upper;
+    let closed_lower_figures: &[u32] = closed_lower;
+    rule(
+        &upper_figures[..horizon],
+        &lower_figures[..horizon],
+        &closed_upper_figures[..horizon],
+        &closed_lower_figures[..horizon],
+        &counts[..held],
+        count,
+    )
 }
 
-// Judges by the view of the history: its figures up to the horizon, and its held ticks.
-fn judge_history(history: History, count: u32) -> Verdict
-    requires { ⌜ Legal (viewOf history) ⌝ }
-    ensures { λ r. ⌜ verdictReply r ≡ result (judged (verdictOn (viewOf history) count)) ⌝ }
+// Judges by the figures as given; a tick that keeps them is lost where it does not keep the closed ones.
+fn rule(
+    upper: &[u32],
+    lower: &[u32],
+    closed_upper: &[u32],
+    closed_lower: &[u32],
+    ticks: &[u32],
+    count: u32,
+) -> Verdict
+    requires { ⌜ Slices (now upper) (now lower) (now ticks) ⌝ }
+    requires { ⌜ Slices (now «closed_upper») (now «closed_lower») (now ticks) ⌝ }
+    ensures { λ r. ⌜ verdictReply r ≡ result (ruled
+        (verdictOn (viewWith (now (upper .entry)) (now (lower .entry)) (now (ticks .entry))) count)
+        (verdictOn (viewWith (now («closed_upper» .entry)) (now («closed_lower» .entry)) (now (ticks .entry))) count)) ⌝ }
 {
-    let horizon = history.horizon;
-    let held = history.held;
-    let upper = history.upper;
-    let lower = history.lower;
-    let ticks = history.ticks;
-    judge(&upper[..horizon], &lower[..horizon], &ticks[..held], count)
+    let verdict = judge(upper, lower, ticks, count);
+    let Verdict::Passed = verdict else {
+        return verdict;
+    };
+    let Verdict::Passed = judge(closed_upper, closed_lower, ticks, count) else {
+        return Verdict::Lost;
+    };
+    Verdict::Passed
 }
 
 // Window after window, the shortest first; `sum` has the new tick and the d before it.
@@ -116,46 +271,27 @@ fn judge(upper: &[u32], lower: &[u32], ticks: &[u32], count: u32) -> Verdict
     verdict
 }
 
-// The next state.
-fn advance(monitor: Monitor, verdict: Verdict, count: u32) -> Monitor
-    requires { ⌜ AddsWhere verdict (viewOf (monitor .history)) ⌝ }
-    ensures { λ r. ⌜ MonitorNext (verdictReply verdict) monitor count r ⌝ }
+// Puts a count that passed behind the held ticks, of which there is at most one fewer than the horizon; gives back how many are held.
+fn hold(verdict: Verdict, ticks: &mut [u32], horizon: usize, held: usize, count: u32) -> usize
+    requires { ⌜ HoldsWhere verdict horizon (now ticks) ⌝ }
+    ensures { λ r. ⌜ Held verdict horizon held count (now (ticks .entry)) (now (ticks .exit)) r ⌝ }
+{
+    let Verdict::Passed = verdict else {
+        return held;
+    };
+    lists::push(&mut ticks[..horizon - 1], held, count)
+}
+
+// The failed mark after a verdict: a tick that is rejected sets it.
+fn mark(verdict: Verdict, failed: bool) -> bool
+    ensures { λ r. ⌜ r ≡ markAfter verdict failed ⌝ }
 {
     match verdict {
-        Verdict::Passed => {
-            let history = with_tick(monitor.history, count);
-            Monitor {
-                history,
-                failed: false,
-            }
-        }
-        Verdict::TooMany { window: _ } => fail(monitor),
-        Verdict::TooFew { window: _ } => fail(monitor),
-        Verdict::AlreadyFailed => monitor,
-        Verdict::BadState => monitor,
-    }
-}
-
-// The history with one tick more. At most one tick fewer than the horizon is held.
-fn with_tick(history: History, count: u32) -> History
-    requires { ⌜ Legal (viewOf history) ⌝ }
-    ensures { λ r. ⌜ viewOf r ≡ added (viewOf history) count ⌝ }
-{
-    let room = history.horizon - 1;
-    let mut ticks = history.ticks;
-    let mut next = history;
-    next.held = lists::push(&mut ticks[..room], history.held, count);
-    next.ticks = ticks;
-    next
-}
-
-// The state after a tick that was rejected: the tick is not added.
-fn fail(monitor: Monitor) -> Monitor
-    ensures { λ r. ⌜ r ≡ markedFailed monitor ⌝ }
-{
-    let history = monitor.history;
-    Monitor {
-        history,
-        failed: true,
+        Verdict::Passed => false,
+        Verdict::TooMany { window: _ } => true,
+        Verdict::TooFew { window: _ } => true,
+        Verdict::Lost => true,
+        Verdict::AlreadyFailed => failed,
+        Verdict::BadState => failed,
     }
 }

@@ -17,7 +17,7 @@ returns c =
 returns-2 : tie.Need-returns-2
 returns-2 c =
     let s = c .before .before .before .before in
-    begun-zero (for s) _ (s .args .answer) (s .pre) (c .before .match .keys2) (c .zero-history .ensures)
+    begun-zero (for s) _ (s .args .answer) (s .pre) (c .before .match .keys2) (c .zero .ensures)
 
 pub begin-spec : {M : Type 1} → statement M
 begin-spec =

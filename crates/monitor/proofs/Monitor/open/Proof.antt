@@ -1,0 +1,43 @@
+-- `monitor::Monitor::open` meets its promise: the answer is that of the questions and of closing, and the state follows from it.
+-- Assumes nothing.
+use Rattle.laws.proofs.Base.{ap, _∙_, needs}
+use Rattle.curves.specs.Pairs.{Pair, pairOf}
+use Rattle.closure.specs.Closing.{closing}
+use Rattle.monitor.specs.Answers.{monitorOpeningReply}
+use Rattle.monitor.proofs.Opening.{answers, begun-is}
+use Rattle.monitor.proofs.Monitor.open.Statement.{statement}
+use Rattle.monitor.proofs.Monitor.open.Tie as tie
+
+returns : tie.Need-returns
+returns c =
+    let found = c .before .opening-for in
+    let start = c .before .before .before .«open» in
+    let close = c .before .before .before .before .before .before .close in
+    let zeros = c .before .before .before .before .before .before .before .before .before in
+    let args = zeros .before .before .before .before .args in
+    let p : Pair = pairOf (args .upper .now) (args .lower .now) in
+    let closes = close .ensures ∙ (λ i. closing p (pairOf (zeros .before .zeros .ensures i) (zeros .zeros2 .ensures i))) in
+    let answer =
+    ap monitorOpeningReply (found .ensures)
+    ∙ answers p (start .result .opening) (close .result) (start .ensures .answer) (ap (λ a. a .number) closes) in
+    record {
+      answer = answer;
+      state =
+          rw (c .begin .ensures)
+          (begun-is p (start .result .history) (close .result) _ _ (search needs) (search needs) closes (found .result) answer
+          (start .ensures .history));
+    }
+
+pub open-spec : {M : Type 1} → statement M
+open-spec =
+    tie.close
+    (tie.spec
+    (λ c κs. search needs)
+    (λ c κs. search needs)
+    (λ c. search needs)
+    (λ c. search needs)
+    (λ c κs. search needs)
+    (λ c κs. search needs)
+    (λ c κs. search needs)
+    (λ c κs. search needs)
+    returns)

@@ -1,0 +1,37 @@
+-- Opening a monitor (document 01, questions 1, 2 and 4; 5 by request P2, since opening closes the pair): two lists in, a state out.
+use mathlib.Core.Path.{_≡_}
+use mathlib.Core.Bool.{false}
+use mathlib.Core.List.{List, [], _∷_}
+use lib.ListN.{replicate}
+use Rattle.curves.specs.Pairs.{Pair, pairOf}
+use Rattle.curves.specs.Questions.{Question, Reply, result, refusal, replyTo}
+use Rattle.bounds.specs.Bounds.{maxHorizon, question1, question2, question4}
+use Rattle.closure.specs.Closing.{question5}
+use Rattle.closure.specs.Theorems.{closureOf}
+use Rattle.history.specs.Opening.{fresh, zeroHistory}
+use Rattle.monitor.specs.declared.Monitor.{Monitor}
+use Rattle.monitor.specs.Monitoring.{MonitorView, monitorView, monitorViewOf, monitorOf}
+
+abbrev pub monitorQuestions : Pair → List Question
+monitorQuestions p = question1 p ∷ question2 p ∷ question4 p ∷ question5 p ∷ []
+
+-- What an opening answers.
+unfoldable pub monitorOpening : Pair → Reply (Unit {0})
+monitorOpening p = replyTo (monitorQuestions p) (λ _. tt)
+
+-- Lists for a closure, with room for every horizon.
+abbrev pub room : Pair
+room = pairOf (replicate maxHorizon 0) (replicate maxHorizon 0)
+
+-- No tick is held yet, and the closed figures are those that closing gives for the pair.
+abbrev pub freshMonitor : Pair → MonitorView
+freshMonitor p = monitorView (fresh p) (closureOf p room) false
+
+-- Every field and every entry is 0.
+unfoldable pub zeroMonitor : Monitor
+zeroMonitor = monitorOf zeroHistory (replicate maxHorizon 0) (replicate maxHorizon 0) false
+
+-- The monitor that an opening hands out. Where it is not refused, what lies past the horizon and past the held ticks is free.
+abbrev pub MonitorBegun : Reply (Unit {0}) → Pair → Monitor → Type 0
+MonitorBegun (result _) p m = monitorViewOf m ≡ freshMonitor p
+MonitorBegun (refusal n) p m = m ≡ zeroMonitor
