@@ -2,7 +2,7 @@
 use Prim.Native.Nat.{ℕ, _+_}
 use Rattle.curves.specs.Ticks.{passed, tooMany, tooFew}
 use Rattle.curves.specs.Questions.{Reply, result, refusal}
-use Rattle.monitor.specs.Monitoring.{Ruling, judged, alreadyFailed}
+use Rattle.monitor.specs.Monitoring.{Ruling, judged, lost, alreadyFailed}
 
 -- The number of a refusal; 0 where there is none.
 abbrev pub replyNumber : {A : Type 0} → Reply A → ℕ
@@ -18,6 +18,7 @@ rulingCode (result (judged passed)) = 0
 rulingCode (result (judged (tooMany d))) = 1_000 + d
 rulingCode (result (judged (tooFew d))) = 2_000 + d
 rulingCode (result alreadyFailed) = 3_000
+rulingCode (result lost) = 4_000
 rulingCode (refusal n) = refusedEntry n
 
 abbrev pub sendingCode : Reply ℕ → ℕ

@@ -1,11 +1,10 @@
 -- What running a script gives back: the opening's number, and the entries as the calls leave them.
 use Prim.Native.Nat.{ℕ}
-use mathlib.Core.Bool.{false}
 use mathlib.Core.List.{List, map}
 use Rattle.curves.specs.Pairs.{Pair}
 use Rattle.curves.specs.Questions.{Reply, result, refusal}
 use Rattle.history.specs.Opening.{opening, fresh}
-use Rattle.monitor.specs.Monitoring.{monitorView}
+use Rattle.monitor.specs.Opening.{monitorOpening, freshMonitor}
 use Rattle.monitor.specs.Calls.{rulings}
 use Rattle.generator.specs.Calls.{sendings}
 use Rattle.scripts.specs.Codes.{rulingCode, sendingCode}
@@ -23,7 +22,7 @@ afterOpening (result _) answers found = scriptAnswer 0 answers
 afterOpening (refusal n) answers found = scriptAnswer n found
 
 abbrev pub judgedScript : Pair → List ℕ → ScriptAnswer
-judgedScript p counts = afterOpening (opening p) (map rulingCode (rulings (monitorView (fresh p) false) counts)) counts
+judgedScript p counts = afterOpening (monitorOpening p) (map rulingCode (rulings (freshMonitor p) counts)) counts
 
 abbrev pub sentScript : Pair → List ℕ → ScriptAnswer
 sentScript p choices = afterOpening (opening p) (map sendingCode (sendings (fresh p) choices)) choices

@@ -4,6 +4,7 @@ use generator::Generator;
 use generator::Sending;
 use history::Opening;
 use monitor::Monitor;
+use monitor::MonitorOpening;
 use monitor::Verdict;
 ghost use mathlib.Core.Path.{_≡_};
 ghost use mathlib.Core.List.{map};
@@ -11,7 +12,7 @@ ghost use Rattle.curves.specs.Pairs.{pairOf};
 ghost use Rattle.history.specs.States.{viewOf};
 ghost use Rattle.history.specs.Answers.{openingReply};
 ghost use Rattle.monitor.specs.Monitoring.{monitorViewOf};
-ghost use Rattle.monitor.specs.Answers.{verdictReply};
+ghost use Rattle.monitor.specs.Answers.{monitorOpeningReply, verdictReply};
 ghost use Rattle.monitor.specs.Calls.{rulings};
 ghost use Rattle.generator.specs.Answers.{sendingReply};
 ghost use Rattle.generator.specs.Calls.{sendings};
@@ -28,6 +29,8 @@ const TOO_FEW: u32 = 2_000;
 
 const ALREADY_FAILED: u32 = 3_000;
 
+const LOST: u32 = 4_000;
+
 // And a refusal, with its number added.
 const REFUSED: u32 = 4_000_000_000;
 
@@ -39,7 +42,7 @@ pub fn judge_script(upper: &[u32], lower: &[u32], script: &mut [u32]) -> u32
     let opened = Monitor::open(upper, lower);
     let opening = opened.opening;
     let state = opened.state;
-    let number = opening_number(opening);
+    let number = monitor_opening_number(opening);
     if number == 0 {
         judge_all(state, script);
     }
@@ -70,8 +73,22 @@ fn verdict_code(verdict: Verdict) -> u32
         Verdict::Passed => PASSED,
         Verdict::TooMany { window } => TOO_MANY + window as u32,
         Verdict::TooFew { window } => TOO_FEW + window as u32,
+        Verdict::Lost => LOST,
         Verdict::AlreadyFailed => ALREADY_FAILED,
         Verdict::BadState => REFUSED + 12,
+    }
+}
+
+// The number of a refused opening of a monitor; 0 where the state is ready.
+fn monitor_opening_number(opening: MonitorOpening) -> u32
+    ensures { λ r. ⌜ r ≡ replyNumber (monitorOpeningReply opening) ⌝ }
+{
+    match opening {
+        MonitorOpening::Opened => 0,
+        MonitorOpening::UpperLength => 1,
+        MonitorOpening::LowerLength => 2,
+        MonitorOpening::FigureLimit => 4,
+        MonitorOpening::NoClosure => 5,
     }
 }
 
@@ -116,7 +133,7 @@ fn sending_code(sending: Sending) -> u32
     }
 }
 
-// The number of a refused opening; 0 where the state is ready.
+// The number of a refused opening of a generator; 0 where the state is ready.
 fn opening_number(opening: Opening) -> u32
     ensures { λ r. ⌜ r ≡ replyNumber (openingReply opening) ⌝ }
 {

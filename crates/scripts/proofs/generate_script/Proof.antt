@@ -1,10 +1,12 @@
 -- `scripts::generate_script` meets its promise: where the generator opens, its ticks are those of the script.
 -- Assumes nothing.
-use Rattle.laws.proofs.Base.{refl, map, needs}
+use Rattle.laws.proofs.Base.{refl, ap, _∙_, subst, map, needs}
 use Rattle.curves.specs.Pairs.{pairOf}
+use Rattle.history.specs.States.{viewOf}
+use Rattle.history.specs.Opening.{opening, fresh, Begun}
 use Rattle.generator.specs.Calls.{sendings}
-use Rattle.scripts.specs.Codes.{sendingCode}
-use Rattle.scripts.proofs.Coded.{run-opened, run-refused}
+use Rattle.scripts.specs.Codes.{replyNumber, sendingCode}
+use Rattle.scripts.proofs.Coded.{opening-numbered, run-opened, run-refused}
 use Rattle.scripts.proofs.generate_script.Statement.{statement}
 use Rattle.scripts.proofs.generate_script.Tie as tie
 
@@ -14,15 +16,21 @@ returns c =
     let number = ran .before .before .before .opening-number in
     let told = ran .before .before .before .before .before .«open» in
     let args = ran .before .before .before .before .before .before .before .before .before .args in
-    run-opened (told .result .opening) _ (told .ensures .answer) _ (number .ensures) (ran .before .before .if1 .taken)
-    (pairOf (args .upper .now) (args .lower .now)) _ (told .ensures .history)
+    let p = pairOf (args .upper .now) (args .lower .now) in
+    let history = told .result .state .history in
+    run-opened _ _ (opening-numbered (told .result .opening) _ (told .ensures .answer))
+    (number .ensures ∙ ap replyNumber (told .ensures .answer)) (ran .before .before .if1 .taken)
+    (viewOf history) (fresh p) (λ e. subst (λ a. Begun a p history) e (told .ensures .history))
     (λ v. map sendingCode (sendings v (args .script .now))) (args .script .now) _ (ran .generate-all .ensures)
 
 returns-2 : tie.Need-returns-2
 returns-2 c =
     let number = c .before .opening-number in
     let told = c .before .before .before .«open» in
-    run-refused (told .result .opening) _ (told .ensures .answer) _ (number .ensures) (c .if1 .left) _ _ _ refl
+    let args = c .before .before .before .before .before .before .before .args in
+    let p = pairOf (args .upper .now) (args .lower .now) in
+    run-refused _ (opening p) (number .ensures ∙ ap replyNumber (told .ensures .answer)) (c .if1 .left)
+    (map sendingCode (sendings (fresh p) (args .script .now))) _ _ refl
 
 pub generate-script-spec : {M : Type 1} → statement M
 generate-script-spec =

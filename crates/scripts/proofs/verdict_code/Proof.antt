@@ -40,7 +40,9 @@ verdict-code-spec =
     (λ c. search needs)
     (λ c. search needs)
     (λ c. search needs)
+    (λ c. search needs)
     returns-2
     returns-3
+    (λ c. search needs)
     (λ c. search needs)
     (λ c. search needs))
