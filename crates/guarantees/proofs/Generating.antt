@@ -7,28 +7,26 @@ use Rattle.laws.specs.Tests.{Each}
 use Rattle.curves.specs.Streams.{countLimit}
 use Rattle.curves.specs.Pairs.{Pair, horizon}
 use Rattle.curves.specs.Conformance.{Conforms}
-use Rattle.curves.specs.Ticks.{then, Keeps, passed}
+use Rattle.curves.specs.Ticks.{then, Keeps}
 use Rattle.curves.specs.Questions.{result, refusal}
 use Rattle.curves.proofs.Asked.{no-refusal}
 use Rattle.curves.proofs.NextTick.{conforms-start, conforms-keeps, keeps-conforms, keeps-has-range, range-whole}
 use Rattle.curves.proofs.Verdicts.{keeps-newest}
 use Rattle.history.specs.States.{View, Legal}
 use Rattle.history.specs.Opening.{opening, fresh}
-use Rattle.generator.specs.Generating.{ranging, sending}
+use Rattle.monitor.specs.Monitoring.{MonitorView}
+use Rattle.generator.specs.Generating.{RangeAnswer, ranging, sending}
 use Rattle.generator.specs.Calls.{viewAfter, sendings, ticked, ranged}
 use Rattle.generator.proofs.Said.{range-answer, ranging-range, ranging-none, ranging-from, count-limited, chosen-within, sent-from}
 use Rattle.generator.proofs.Said.{generator-next}
-use Rattle.guarantees.specs.Exact.{PassesCount, SmallestAndLargest, SendsIffPasses, NoCountIffNonePasses, RangeShowsExtremes}
-use Rattle.guarantees.specs.Exact.{SendsConforming, EqualGeneratorsAgree, EqualGeneratorsRange, CallsAreSendings}
+use Rattle.guarantees.specs.Exact.{Unfailed, JudgedOutside, SendsIffNeither, NoCountIffAllOutside, SmallestAndLargest}
+use Rattle.guarantees.specs.Exact.{RangeShowsExtremes, SendsConforming, EqualGeneratorsAgree, EqualGeneratorsRange, CallsAreSendings}
 use Rattle.guarantees.proofs.Total.{ranging-refused, sending-refused}
 use Rattle.guarantees.proofs.Held.{heldOf, held-fresh, held-added, held-legal, opened-positive}
-use Rattle.guarantees.proofs.Monitoring.{answers-right}
+use Rattle.guarantees.proofs.Rulings.{outside-iff, neither-iff}
 
 -- ---- on a legal history
 module _ (v : View) (l : Legal v) where
-  passes-iff : (x : ℕ) → PassesCount v x ↔ Keeps (v .pair) (then (v .held) x)
-  passes-iff x = answers-right v x l passed
-
   -- The choice x − lo sends x.
   choice-for : (x : ℕ) → Keeps (v .pair) (then (v .held) x) → (choice : ℕ) × (choice ≤ countLimit) × (sending v choice ≡ result x)
   choice-for x k =
@@ -44,49 +42,60 @@ module _ (v : View) (l : Legal v) where
       rw (← c, ← f)
       (range-whole (v .pair) (v .held) r _ .1 (chosen-within (range-answer (r .lo) (r .hi)) choice (r .largest (r .lo) (r .lo-keeps))))
 
-pub sends-iff-passes : SendsIffPasses
-sends-iff-passes v l x = (
-  (λ s. passes-iff v l x .1 (sent-keeps v l (s .0) x (s .2))),
-  (λ q. choice-for v l x (passes-iff v l x .0 q)),
+-- ---- beside a monitor with the same history
+module _ (w : MonitorView) (f : Unfailed w) where
+  abbrev v : View
+  v = w .view
+
+  l : Legal v
+  l = f .legal .given
+
+  -- There is a range exactly when some count is neither 'too many' nor 'too few'.
+  none-iff : (ranging v ≡ refusal 13) ↔ ((x : ℕ) → JudgedOutside w x)
+  none-iff = (
+    λ e x. outside-iff w x f .1 (λ k.
+        let r = keeps-has-range (v .pair) (v .held) (l .lengths .0) x k in
+        no-refusal _ 13 (sym (ranging-range v l r) ∙ e)),
+    λ all. ranging-none v l (λ r. outside-iff w (r .lo) f .0 (all (r .lo)) (r .lo-keeps)),
+  )
+
+  shows : (b : RangeAnswer) → ranging v ≡ result b → SmallestAndLargest w b
+  shows b e =
+      let (l′, (r, s)) = ranging-from v b e in
+      rw (← s)
+      (record {
+        lo-admitted = neither-iff w (r .lo) f .1 (r .lo-keeps);
+        hi-admitted = neither-iff w (r .hi) f .1 (r .hi-keeps);
+        smallest = λ x n. r .smallest x (neither-iff w x f .0 n);
+        largest = λ x n. r .largest x (neither-iff w x f .0 n);
+      })
+
+  shown-by : (b : RangeAnswer) → SmallestAndLargest w b → ranging v ≡ result b
+  shown-by b e =
+      ranging-range v l
+      (record {
+        lo = b .lo;
+        hi = b .hi;
+        lo-keeps = neither-iff w (b .lo) f .0 (e .lo-admitted);
+        hi-keeps = neither-iff w (b .hi) f .0 (e .hi-admitted);
+        smallest = λ x k. e .smallest x (neither-iff w x f .1 k);
+        largest = λ x k. e .largest x (neither-iff w x f .1 k);
+      })
+
+pub sends-iff-neither : SendsIffNeither
+sends-iff-neither w f x = (
+  (λ s. neither-iff w x f .1 (sent-keeps (w .view) (f .legal .given) (s .0) x (s .2))),
+  (λ n. choice-for (w .view) (f .legal .given) x (neither-iff w x f .0 n)),
 )
 
-pub no-count-iff-none-passes : NoCountIffNonePasses
-no-count-iff-none-passes v l =
-    (none, λ choice. Iff·trans (sending-refused v choice 13) (Iff·trans (Iff·symm (ranging-refused v 13)) none))
-  where
-    none : (ranging v ≡ refusal 13) ↔ ((x : ℕ) → ¬ PassesCount v x)
-    none = (
-      λ e x q.
-          let r = keeps-has-range (v .pair) (v .held) (l .lengths .0) x (passes-iff v l x .0 q) in
-          no-refusal _ 13 (sym (ranging-range v l r) ∙ e),
-      λ n. ranging-none v l (λ r. n (r .lo) (passes-iff v l (r .lo) .1 (r .lo-keeps))),
-    )
+pub no-count-iff-all-outside : NoCountIffAllOutside
+no-count-iff-all-outside w f = (
+  none-iff w f,
+  λ choice. Iff·trans (sending-refused (w .view) choice 13) (Iff·trans (Iff·symm (ranging-refused (w .view) 13)) (none-iff w f)),
+)
 
 pub range-shows-extremes : RangeShowsExtremes
-range-shows-extremes v l b = (there, back)
-  where
-    there : ranging v ≡ result b → SmallestAndLargest v b
-    there e =
-        let (l′, (r, f)) = ranging-from v b e in
-        rw (← f)
-        (record {
-          lo-passes = passes-iff v l (r .lo) .1 (r .lo-keeps);
-          hi-passes = passes-iff v l (r .hi) .1 (r .hi-keeps);
-          smallest = λ x q. r .smallest x (passes-iff v l x .0 q);
-          largest = λ x q. r .largest x (passes-iff v l x .0 q);
-        })
-
-    back : SmallestAndLargest v b → ranging v ≡ result b
-    back e =
-        ranging-range v l
-        (record {
-          lo = b .lo;
-          hi = b .hi;
-          lo-keeps = passes-iff v l (b .lo) .0 (e .lo-passes);
-          hi-keeps = passes-iff v l (b .hi) .0 (e .hi-passes);
-          smallest = λ x k. e .smallest x (passes-iff v l x .1 k);
-          largest = λ x k. e .largest x (passes-iff v l x .1 k);
-        })
+range-shows-extremes w f b = (shows w f b, shown-by w f b)
 
 -- ---- from a fresh opening
 module _ (p : Pair) (o : opening p ≡ result tt) where

@@ -1,7 +1,9 @@
 -- What the customer was promised, proved. Assumes nothing.
 pub mod Total
 pub mod Held
+pub mod Rulings
 pub mod Monitoring
+pub mod Lost
 pub mod Generating
 pub mod NeverRefused
 pub mod Cost

@@ -1,6 +1,6 @@
 -- Document 01's marked figures hold: what is computed of each case of the list, and what it proves. Assumes nothing.
-use Rattle.laws.proofs.Base.{ℕ, _≤_, _≡_, refl, sym, _∙_, Bool, true, List, [], _∷_, _++_, map, ⊎-map, Dec·and, decLe, decLt, ℕ-discrete}
-use Rattle.laws.proofs.Base.{arith, length}
+use Rattle.laws.proofs.Base.{ℕ, _≤_, _≡_, refl, sym, _∙_, Bool, true, false, List, [], _∷_, _++_, map, ⊎-map, Dec·and, decLe, decLt}
+use Rattle.laws.proofs.Base.{ℕ-discrete, arith, length}
 use mathlib.Core.Logic.{Dec·not}
 use lib.Dec.{T}
 use Rattle.laws.specs.Ranges.{fold, table}
@@ -9,6 +9,7 @@ use Rattle.laws.proofs.Table.{length-table}
 use Rattle.laws.proofs.Tests.{each?, each-map, equal-lists?}
 use Rattle.laws.specs.Tests.{Each}
 use Rattle.curves.specs.Pairs.{Pair, horizon, figure, Equal}
+use Rattle.curves.specs.Conformance.{Conforms}
 use Rattle.curves.specs.Ticks.{passed}
 use Rattle.curves.specs.Streams.{sum}
 use Rattle.curves.specs.Questions.{Question, ask, result, refusal}
@@ -30,13 +31,12 @@ use Rattle.history.specs.States.{legal?}
 use Rattle.bounds.specs.Bounds.{pairQuestions}
 use Rattle.bounds.proofs.Said.{asking-yes}
 use Rattle.history.specs.Opening.{opening, fresh}
-use Rattle.monitor.specs.Monitoring.{judged, judging}
+use Rattle.monitor.specs.Monitoring.{monitorView, legalMonitor?, judged, judging}
 use Rattle.monitor.specs.Calls.{rulings}
 use Rattle.generator.specs.Generating.{ranging}
 use Rattle.generator.specs.Calls.{addedAll}
-use Rattle.guarantees.specs.Exact.{unfailed}
 use Rattle.guarantees.specs.Marked.{publishedTriples, Case, reads, closes, refuses, goesOn, CaseHolds, markedCases, MarkedFigures}
-use Rattle.guarantees.proofs.Monitoring.{conforms-iff-all-pass}
+use Rattle.guarantees.proofs.Monitoring.{start, pass-iff}
 
 -- Questions 1, 2 and 4, which the result lists have no part in.
 opens? : Pair → Bool
@@ -54,19 +54,28 @@ opened p t = sym (asking-yes p (left (ask (pairQuestions p)) t))
 abbrev textQuestions : Bytes → List Question
 textQuestions t = question6 t ∷ recordQuestions [] (later t) ++ (question10 t ∷ [])
 
--- What is computed of a case. No marked pair takes more than 4 rounds; every tick of a start passes the monitor.
+-- What is computed of a case. No marked pair takes more than 4 rounds; every tick of a start passes a monitor by the figures as given, in a
+-- state that holds them for closed ones too.
 abbrev Computed : Case → Type 0
 Computed (reads t q) = T (left? (ask (textQuestions t))) × T (left? (same? (textPair t) q))
 Computed (closes p n q) = T (opens? p) × T (arrives? p n q)
 Computed (refuses p) = T (opens? p) × T (crosses-by? p 4)
 Computed (goesOn p xs a) =
     T (opens? p)
-    × (rulings (unfailed (fresh p)) xs ≡ map (λ _. result (judged passed)) xs)
+    × (rulings (monitorView (fresh p) p false) xs ≡ map (λ _. result (judged passed)) xs)
     × (ranging (addedAll (fresh p) xs) ≡ a)
 
 all-passed : (xs : List ℕ) → Each (λ r. r ≡ result (judged passed)) (map (λ _. result (judged passed)) xs)
 all-passed [] = tt
 all-passed (x ∷ xs) = (refl, all-passed xs)
+
+pass-conforms : (p : Pair) (xs : List ℕ) → T (opens? p)
+    → Each (λ r. r ≡ result (judged passed)) (rulings (monitorView (fresh p) p false) xs) → Conforms p xs
+unfolding opens?
+pass-conforms p xs ok es =
+    let ys = left (ask (pairQuestions p)) ok in
+    let none : Conforms p [] = λ i d u v w. absurd (omega arith) in
+    pass-iff p p ys ys refl (monitorView (fresh p) p false) [] xs (start p p ys ys refl) (none, none) .1 es .0
 
 holds : (c : Case) → Computed c → CaseHolds c
 holds (reads t q) (asked, same) =
@@ -84,13 +93,13 @@ holds (refuses p) (ok, x) =
     let (k, crosses) = crosses-by p 4 x in
     refused-is p found 5 (fifth p found (opens p found ok u l) (λ a. never-both p (a .1) (a .0) k (a .2) crosses))
 holds (goesOn p xs a) (ok, pass, shown) =
-    (opened p ok, conforms-iff-all-pass p (opened p ok) xs .1 (rw pass (all-passed xs)), shown, λ choice. rw shown)
+    (opened p ok, pass-conforms p xs ok (rw pass (all-passed xs)), shown, λ choice. rw shown)
 
 pub marked-figures : MarkedFigures
 unfolding markedCases publishedTriples opens? ask ⊎-map every every? decLe ℕ-discrete Dec·and left? crossed? equal? same? runs? arrives?
     crosses? crosses-by? records fields valueAfter named each? digit? numeral? wellFormed? inRange? Dec·not equal-lists? fold table
-    figure newFigure round figuresOf after rulings addedAll judging ranging legal? verdict? find rejected inside? judged? range?
-    range-from decLt sum
+    figure newFigure round figuresOf after rulings addedAll judging ranging legalMonitor? legal? verdict? find rejected inside? judged?
+    range? range-from decLt sum
 marked-figures =
     let c : T true × T true = (tt, tt) in
     each-map Computed CaseHolds markedCases holds

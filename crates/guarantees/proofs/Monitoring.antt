@@ -1,115 +1,157 @@
--- Demand 2, the monitor: in any legal state, and over a whole stream. Assumes nothing.
-use Rattle.laws.proofs.Base.{ℕ, _-_, _≡_, refl, sym, ap, _∙_, true, List, [], _∷_, _++_, append-assoc, append-nil, _↔_, arith}
-use mathlib.Core.Logic.{Iff·trans}
+-- Demand 2 and request P2, the monitor over a whole stream: what it says of the stream, and that nothing passes after a rejected tick.
+-- Assumes nothing.
+use Rattle.laws.proofs.Base.{ℕ, suc, _-_, _≤_, _≡_, refl, sym, ap, _∙_, subst, true, false, List, [], _∷_, _++_, append-assoc, append-nil}
+use Rattle.laws.proofs.Base.{_↔_, _⊎_, inl, inr, ⊎-elim, arith}
+use mathlib.Core.Logic.{Iff·rfl, Iff·trans, Iff·and, Iff·not}
 use Rattle.laws.specs.Tests.{Each}
+use Rattle.laws.proofs.Tests.{each-map}
 use Rattle.curves.specs.Pairs.{Pair, horizon}
-use Rattle.curves.specs.Conformance.{Inside, Conforms}
-use Rattle.curves.specs.Ticks.{then, last, Judged, Verdict, passed, tooMany, tooFew, Right}
-use Rattle.curves.specs.Questions.{Reply, result}
+use Rattle.curves.specs.Conformance.{Conforms}
+use Rattle.curves.specs.Ticks.{then, newest, Keeps, passed, tooMany, tooFew}
+use Rattle.curves.specs.Questions.{AllYes, Reply, result}
 use Rattle.curves.proofs.NextTick.{conforms-start, conforms-keeps, keeps-conforms}
-use Rattle.curves.proofs.Verdicts.{verdict?, right-newest}
+use Rattle.curves.proofs.Verdicts.{keeps-newest, right-newest}
+use Rattle.bounds.specs.Bounds.{pairQuestions}
+use Rattle.bounds.proofs.Said.{asking-yes}
 use Rattle.history.specs.States.{View, Legal}
-use Rattle.history.specs.Opening.{opening, fresh}
-use Rattle.monitor.specs.Monitoring.{MonitorView, monitorView, Ruling, judged, alreadyFailed, judging}
+use Rattle.history.specs.Opening.{fresh}
+use Rattle.monitor.specs.Monitoring.{MonitorView, monitorView, LegalMonitor, Ruling, judged, lost, alreadyFailed, rulingOn, judging}
 use Rattle.monitor.specs.Calls.{afterTick, afterTicks, rulings}
-use Rattle.monitor.proofs.Said.{judging-failed, ruling-is, ruling-right, monitor-next}
-use Rattle.guarantees.specs.Exact.{unfailed, PassesCount, RejectsIffOutside, AnswersRight, ConformsIffAllPass, RightOfWholeStream}
-use Rattle.guarantees.specs.Exact.{NothingPassesAfter, TicksAreRulings, EqualMonitorsAgree}
-use Rattle.guarantees.proofs.Held.{heldOf, held-fresh, held-added, held-legal, opened-positive}
+use Rattle.monitor.proofs.Said.{judging-failed, judging-unfailed, monitor-next}
+use Rattle.guarantees.specs.Exact.{Unfailed, Answers, TicksAreRulings, EqualMonitorsAgree}
+use Rattle.guarantees.proofs.Held.{heldOf, held-fresh, held-added, held-legal}
+use Rattle.guarantees.proofs.Rulings.{RightRuling, ruling-iff}
 
--- ---- in any legal state
-pub answers-right : AnswersRight
-answers-right v x l w = (ruling-right v x l w, ruling-is v x l w)
+abbrev pub IsPassed : Reply Ruling → Type 0
+IsPassed r = r ≡ result (judged passed)
 
-pub rejects-iff-outside : RejectsIffOutside
-rejects-iff-outside v x l =
-    (λ n. go n (verdict? (v .pair) ys .0) (verdict? (v .pair) ys .1), λ o f. o .2 (answers-right v x l passed .0 f (o .0) (o .1)))
-  where
-    ys : List ℕ
-    ys = then (v .held) x
-
-    go : ¬ PassesCount v x → (w : Verdict) → Right (v .pair) ys w → (d : ℕ) × Judged (v .pair) ys d × (¬ Inside (v .pair) d (last ys d))
-    go n passed r = absurd (n (ruling-is v x l passed r))
-    go n (tooMany d) r = (d, r .0 .window-judged, r .0 .outside)
-    go n (tooFew d) r = (d, r .0 .window-judged, r .0 .outside)
+abbrev pub NotLost : Reply Ruling → Type 0
+NotLost r = ¬ (r ≡ result lost)
 
 -- A monitor that has failed stays so.
-abbrev AllFailed : MonitorView → List ℕ → Type 0
+abbrev pub AllFailed : MonitorView → List ℕ → Type 0
 AllFailed w xs = Each (λ r. r ≡ result alreadyFailed) (rulings w xs)
 
-failed-stays : (v : View) → Legal v → (xs : List ℕ) → AllFailed (monitorView v true) xs
+failed-stays : (w : MonitorView) → LegalMonitor w → w .failed ≡ true → (xs : List ℕ) → AllFailed w xs
 unfolding rulings
-failed-stays v l [] = tt
-failed-stays v l (x ∷ xs) =
-    let e = judging-failed (monitorView v true) x l refl in
-    (e, rw e (failed-stays v l xs))
+failed-stays w l f [] = tt
+failed-stays w l f (x ∷ xs) = let e = judging-failed w x l f in (e, rw e (failed-stays w l f xs))
 
--- ---- over a whole stream
-module _ (p : Pair) (o : opening p ≡ result tt) where
-  -- The monitor after the stream xs, none of it rejected.
-  abbrev after : List ℕ → MonitorView
-  after xs = unfailed (heldOf p xs)
+failed-not-lost : (r : Reply Ruling) → r ≡ result alreadyFailed → NotLost r
+failed-not-lost r f e = let z : _≡_ {A = ℕ} 0 1 = cc in omega arith
 
-  abbrev IsPassed : Reply Ruling → Type 0
-  IsPassed r = r ≡ result (judged passed)
+-- ---- a monitor of the pair p with the closed figures q, of one horizon
+module _ (p q : Pair) (ys : AllYes (pairQuestions p)) (ys′ : AllYes (pairQuestions q)) (same : horizon q ≡ horizon p) where
+  -- After the stream xs, none of it rejected.
+  abbrev pub after : List ℕ → MonitorView
+  after xs = monitorView (heldOf p xs) q false
+
+  pub start : monitorView (fresh p) q false ≡ after []
+  start = ap (λ (v : View). monitorView v q false) (held-fresh p)
+
+  legal : (xs : List ℕ) → LegalMonitor (after xs)
+  legal xs =
+      record {
+        given = held-legal p (sym (asking-yes p ys)) xs;
+        closed =
+            subst (λ (n : ℕ). Legal (record { pair = q; held = newest (n - 1) xs })) same (held-legal q (sym (asking-yes q ys′)) xs);
+      }
+
+  -- The last ticks are as good as the whole stream.
+  keeps-whole : (xs : List ℕ) (x : ℕ) → Keeps p (then (newest (horizon p - 1) xs) x) ↔ Keeps p (then xs x)
+  keeps-whole xs x = keeps-newest p (horizon p - 1) xs (omega arith) x
+
+  keeps-closed : (xs : List ℕ) (x : ℕ) → Keeps q (then (newest (horizon p - 1) xs) x) ↔ Keeps q (then xs x)
+  keeps-closed xs x = keeps-newest q (horizon p - 1) xs (omega (arith, same)) x
+
+  right-of-newest : (xs : List ℕ) (x : ℕ) (r : Ruling)
+      → RightRuling p q (then (newest (horizon p - 1) xs) x) r ↔ RightRuling p q (then xs x) r
+  right-of-newest xs x (judged passed) = Iff·and (keeps-whole xs x) (keeps-closed xs x)
+  right-of-newest xs x (judged (tooMany d)) = right-newest p (horizon p - 1) xs (omega arith) x (tooMany d)
+  right-of-newest xs x (judged (tooFew d)) = right-newest p (horizon p - 1) xs (omega arith) x (tooFew d)
+  right-of-newest xs x lost = Iff·and (keeps-whole xs x) (Iff·not (keeps-closed xs x))
+  right-of-newest xs x alreadyFailed = Iff·rfl
 
   -- Its next tick.
   module _ (w : MonitorView) (xs : List ℕ) (s : w ≡ after xs) (x : ℕ) where
-    right-of-all : (v : Verdict) → (judging w x ≡ result (judged v)) ↔ Right p (then xs x) v
-    right-of-all v =
-        rw s
-        (Iff·trans (answers-right (heldOf p xs) x (held-legal p o xs) v)
-        (right-newest p (horizon p - 1) xs (omega (arith, opened-positive p o)) x v))
+    pub right-of-all : (r : Ruling) → Answers w x r ↔ RightRuling p q (then xs x) r
+    right-of-all r =
+        rw s (Iff·trans (ruling-iff (after xs) x (record { legal = legal xs; mark = refl }) r) (right-of-newest xs x r))
 
     tick-on : IsPassed (judging w x) → afterTick w x ≡ after (then xs x)
-    tick-on e = rw (e, s) (ap unfailed (held-added p xs x))
+    tick-on e = rw (e, s) (ap (λ (v : View). monitorView v q false) (held-added p xs x))
+
+    -- It passes, or the monitor has failed for good.
+    ruling-is : Answers w x (rulingOn (after xs) x)
+    ruling-is = rw s (judging-unfailed (after xs) x (legal xs) refl)
+
+    failed-on : (zs : List ℕ) → AllFailed (monitorView (heldOf p xs) q true) zs
+    failed-on zs = failed-stays _ (record { given = legal xs .given; closed = legal xs .closed }) refl zs
+
+    passed-or-failed : (r : Ruling) → Answers w x r → IsPassed (judging w x) ⊎ ((zs : List ℕ) → AllFailed (afterTick w x) zs)
+    passed-or-failed (judged passed) e = inl e
+    passed-or-failed (judged (tooMany d)) e = inr (λ zs. rw (e, s) (failed-on zs))
+    passed-or-failed (judged (tooFew d)) e = inr (λ zs. rw (e, s) (failed-on zs))
+    passed-or-failed lost e = inr (λ zs. rw (e, s) (failed-on zs))
+    passed-or-failed alreadyFailed e = absurd (right-of-all alreadyFailed .0 e)
+
+    pub passes-or-fails : IsPassed (judging w x) ⊎ ((zs : List ℕ) → AllFailed (afterTick w x) zs)
+    passes-or-fails = passed-or-failed (rulingOn (after xs) x) ruling-is
+
+  -- The stream conforms to both pairs.
+  abbrev pub ConformsBoth : List ℕ → Type 0
+  ConformsBoth xs = Conforms p xs × Conforms q xs
 
   -- From the stream ys on: while every tick passes, the stream conforms, and the monitor holds the stream's last ticks.
-  pass-iff : (w : MonitorView) (ys xs : List ℕ) → w ≡ after ys → Conforms p ys → Conforms p (ys ++ xs) ↔ Each IsPassed (rulings w xs)
+  pub pass-iff : (w : MonitorView) (ys xs : List ℕ) → w ≡ after ys → ConformsBoth ys
+      → ConformsBoth (ys ++ xs) ↔ Each IsPassed (rulings w xs)
   unfolding rulings
   pass-iff w ys [] s c = (λ _. tt, λ _. rw append-nil c)
   pass-iff w ys (x ∷ xs) s c =
-      let right = right-of-all w ys s x passed in
-      let on : Conforms p (then ys x) → IsPassed (judging w x) → Conforms p (then ys x ++ xs) ↔ Each IsPassed (rulings (afterTick w x) xs) =
+      let right = right-of-all w ys s x (judged passed) in
+      let on
+      : ConformsBoth (then ys x) → IsPassed (judging w x)
+      → ConformsBoth (then ys x ++ xs) ↔ Each IsPassed (rulings (afterTick w x) xs) =
       λ c′ e. pass-iff (afterTick w x) (then ys x) xs (tick-on w ys s x e) c′ in
       rw (← append-assoc ys (x ∷ []) xs) (
         λ all.
-            let c′ = conforms-start p (then ys x) xs all in
-            let e = right .1 (conforms-keeps p (then ys x) c′) in
+            let c′ : ConformsBoth (then ys x) = (conforms-start p (then ys x) xs (all .0), conforms-start q (then ys x) xs (all .1)) in
+            let e = right .1 (conforms-keeps p (then ys x) (c′ .0), conforms-keeps q (then ys x) (c′ .1)) in
             (e, on c′ e .0 all),
-        λ es. on (keeps-conforms p ys x c (right .0 (es .0))) (es .0) .1 (es .1),
+        λ es.
+            let k = right .0 (es .0) in
+            on (keeps-conforms p ys x (c .0) (k .0), keeps-conforms q ys x (c .1) (k .1)) (es .0) .1 (es .1),
       )
 
-  after-passing : (w : MonitorView) (ys xs : List ℕ) → w ≡ after ys → Each IsPassed (rulings w xs) → afterTicks w xs ≡ after (ys ++ xs)
+  pub after-passing : (w : MonitorView) (ys xs : List ℕ) → w ≡ after ys → Each IsPassed (rulings w xs) → afterTicks w xs ≡ after (ys ++ xs)
   unfolding rulings afterTicks
   after-passing w ys [] s es = s ∙ ap after (sym (append-nil ys))
   after-passing w ys (x ∷ xs) s es =
       rw (← append-assoc ys (x ∷ []) xs) (after-passing (afterTick w x) (then ys x) xs (tick-on w ys s x (es .0)) (es .1))
 
   -- A tick that is not passed sets the mark.
-  failed-after : (w : MonitorView) (ys xs : List ℕ) (x : ℕ) → w ≡ after ys → Each IsPassed (rulings w xs)
+  pub failed-after : (w : MonitorView) (ys xs : List ℕ) (x : ℕ) → w ≡ after ys → Each IsPassed (rulings w xs)
       → (¬ Each IsPassed (rulings w (then xs x))) → (zs : List ℕ) → AllFailed (afterTicks w (then xs x)) zs
   unfolding rulings afterTicks
-  failed-after w ys [] x s es n zs = go (verdict? p (then ys x) .0) (right-of-all w ys s x _ .1 (verdict? p (then ys x) .1))
-    where
-      go : (v : Verdict) → judging w x ≡ result (judged v) → AllFailed (afterTick w x) zs
-      go passed e = absurd (n (e, tt))
-      go (tooMany d) e = rw (e, s) (failed-stays (heldOf p ys) (held-legal p o ys) zs)
-      go (tooFew d) e = rw (e, s) (failed-stays (heldOf p ys) (held-legal p o ys) zs)
+  failed-after w ys [] x s es n zs = ⊎-elim (λ e. absurd (n (e, tt))) (λ f. f zs) (passes-or-fails w ys s x)
   failed-after w ys (y ∷ xs) x s es n zs =
       failed-after (afterTick w y) (then ys y) xs x (tick-on w ys s y (es .0)) (es .1) (λ fs. n (es .0, fs)) zs
 
-  start : unfailed (fresh p) ≡ after []
-  start = ap unfailed (held-fresh p)
-
-pub conforms-iff-all-pass : ConformsIffAllPass
-conforms-iff-all-pass p o xs = pass-iff p o (unfailed (fresh p)) [] xs (start p o) (λ i d u v w. absurd (omega arith))
-
-pub right-of-whole-stream : RightOfWholeStream
-right-of-whole-stream p o xs es x w = right-of-all p o _ xs (after-passing p o (unfailed (fresh p)) [] xs (start p o) es) x w
-
-pub nothing-passes-after : NothingPassesAfter
-nothing-passes-after p o xs es x = failed-after p o (unfailed (fresh p)) [] xs x (start p o) es
+  -- Where every stream that conforms to p conforms to q, nothing is lost.
+  pub never-lost : ((zs : List ℕ) → Conforms p zs → Conforms q zs) → (w : MonitorView) (ys xs : List ℕ) → w ≡ after ys → Conforms p ys
+      → Each NotLost (rulings w xs)
+  unfolding rulings
+  never-lost closed w ys [] s c = tt
+  never-lost closed w ys (x ∷ xs) s c =
+      let passed-is = right-of-all w ys s x (judged passed) in (
+        (λ e.
+            let (k, n) = right-of-all w ys s x lost .0 e in
+            n (conforms-keeps q (then ys x) (closed (then ys x) (keeps-conforms p ys x c k)))),
+        ⊎-elim
+            (λ e. never-lost closed (afterTick w x) (then ys x) xs (tick-on w ys s x e) (keeps-conforms p ys x c (passed-is .0 e .0)))
+            (λ f. each-map (λ r. r ≡ result alreadyFailed) NotLost (rulings (afterTick w x) xs) failed-not-lost (f xs))
+            (passes-or-fails w ys s x),
+      )
 
 -- ---- only the view of a state has an effect
 pub ticks-are-rulings : TicksAreRulings

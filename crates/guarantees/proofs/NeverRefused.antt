@@ -21,7 +21,7 @@ use Rattle.generator.specs.Calls.{Call, ticked, ranged, Calls, countsSent}
 use Rattle.generator.proofs.Said.{range-answer, ranging-range, generator-next}
 use Rattle.guarantees.specs.NeverRefused.{OpensOnClosure, NotRefused, NeverRefused, PassesIffExtendable}
 use Rattle.guarantees.proofs.Held.{heldOf, held-fresh, held-legal, opened-positive}
-use Rattle.guarantees.proofs.Monitoring.{conforms-iff-all-pass}
+use Rattle.guarantees.proofs.Lost.{all-pass-iff-extendable, monitor-opens-on-closure, extendable-same}
 use Rattle.guarantees.proofs.Generating.{sent-on, sent-conforms}
 
 closure-opens : (p found : Pair) → GivesClosure p found → opening (closureOf p found) ≡ result tt
@@ -67,4 +67,5 @@ never-refused p found g o a cs t =
 
 pub passes-iff-extendable : PassesIffExtendable
 passes-iff-extendable p found g xs =
-    Iff·trans (Iff·symm (conforms-iff-all-pass (closureOf p found) (closure-opens p found g) xs)) (conforms-iff-extendable p found g xs)
+    Iff·trans (all-pass-iff-extendable (closureOf p found) (monitor-opens-on-closure p found g) xs)
+    (Iff·symm (extendable-same p found g xs))

@@ -3,20 +3,24 @@ use Rattle.laws.proofs.Base.{_≡_, [], _∷_}
 use mathlib.Core.Logic.{Iff·trans}
 use Rattle.curves.specs.Questions.{Reply, result, refusal}
 use Rattle.curves.proofs.Asked.{refusal-iff}
-use Rattle.history.specs.States.{question12}
 use Rattle.bounds.specs.Bounds.{pairQuestions, asking}
-use Rattle.monitor.specs.Monitoring.{judging}
+use Rattle.monitor.specs.Monitoring.{monitorQuestion12, judging}
+use Rattle.monitor.specs.Opening.{monitorQuestions, monitorOpening}
 use Rattle.generator.specs.Generating.{rangeQuestions, RangeAnswer, ranging, sentFrom}
-use Rattle.guarantees.specs.Total.{OpeningRefused, JudgingRefused, RangingRefused, SendingRefused, RefusedMonitorStays}
-use Rattle.guarantees.specs.Total.{RefusedGeneratorStays}
+use Rattle.guarantees.specs.Total.{OpeningRefused, MonitorOpeningRefused, JudgingRefused, RangingRefused, SendingRefused}
+use Rattle.guarantees.specs.Total.{RefusedMonitorStays, RefusedGeneratorStays}
 
 pub opening-refused : OpeningRefused
 unfolding asking
 opening-refused p n = refusal-iff (pairQuestions p) _ n
 
+pub monitor-opening-refused : MonitorOpeningRefused
+unfolding monitorOpening
+monitor-opening-refused p n = refusal-iff (monitorQuestions p) _ n
+
 pub judging-refused : JudgingRefused
 unfolding judging
-judging-refused w x n = refusal-iff (question12 (w .view) ∷ []) _ n
+judging-refused w x n = refusal-iff (monitorQuestion12 w ∷ []) _ n
 
 pub ranging-refused : RangingRefused
 unfolding ranging

@@ -1,20 +1,22 @@
--- Demand 2. Its last sentence, on the closure, is closing's own (`GivesWhatArrives`, `ClosureIsArrivedAt`).
+-- Demand 2, as request P2 leaves it: its first sentence is one about 'too many' and 'too few', and the generator is compared with the
+-- counts that are neither. Its last sentence, on the closure, is closing's own (`GivesWhatArrives`, `ClosureIsArrivedAt`).
 use Prim.Native.Nat.{ℕ, _≤_}
 use mathlib.Core.Path.{_≡_}
 use mathlib.Core.Bool.{false}
 use mathlib.Core.List.{List, map}
-use mathlib.Core.Logic.{_↔_}
+use mathlib.Core.Logic.{_↔_, _⊎_}
 use Rattle.laws.specs.Tests.{Each}
 use Rattle.curves.specs.Streams.{countLimit}
 use Rattle.curves.specs.Pairs.{Pair}
 use Rattle.curves.specs.Conformance.{Inside, Conforms}
-use Rattle.curves.specs.Ticks.{then, last, Judged, Verdict, passed, Right}
+use Rattle.curves.specs.Ticks.{then, last, Judged, Keeps, Verdict, passed, tooMany, tooFew, Right}
 use Rattle.curves.specs.Questions.{result, refusal}
-use Rattle.history.specs.States.{View, viewOf, Legal}
+use Rattle.history.specs.States.{viewOf}
 use Rattle.history.specs.Opening.{opening, fresh}
 use Rattle.monitor.specs.declared.Monitor.{Monitor}
 use Rattle.monitor.specs.declared.Judgement.{Judgement}
-use Rattle.monitor.specs.Monitoring.{MonitorView, monitorView, monitorViewOf, EqualMonitors, judged, alreadyFailed, judging}
+use Rattle.monitor.specs.Monitoring.{MonitorView, monitorViewOf, EqualMonitors, LegalMonitor, Ruling, judged, lost, alreadyFailed, judging}
+use Rattle.monitor.specs.Opening.{monitorOpening, freshMonitor}
 use Rattle.monitor.specs.Answers.{verdictReply}
 use Rattle.monitor.specs.Promises.{MonitorTicked}
 use Rattle.monitor.specs.Calls.{afterTicks, rulings, Tick, Ticks}
@@ -26,68 +28,94 @@ use Rattle.generator.specs.Answers.{rangeReply, sendingReply}
 use Rattle.generator.specs.Promises.{GeneratorTicked, GeneratorRanged}
 use Rattle.generator.specs.Calls.{sendings, Call, Calls, choicesOf, repliesOf}
 
--- A monitor that has not failed.
-abbrev pub unfailed : View → MonitorView
-unfailed v = monitorView v false
+-- ---- the monitor, in any legal state that has not failed, whoever built it
+pub record Unfailed (w : MonitorView) : Type 0 where
+  pub legal : LegalMonitor w
+  pub mark : w .failed ≡ false
 
--- It passes the count x.
-abbrev pub PassesCount : View → ℕ → Type 0
-PassesCount v x = judging (unfailed v) x ≡ result (judged passed)
+abbrev pub Answers : MonitorView → ℕ → Ruling → Type 0
+Answers w x r = judging w x ≡ result r
 
--- ---- the monitor, in any legal state
--- It rejects a tick (document 01: turns it down) exactly when some window that ends there is outside its figures.
-abbrev pub RejectsIffOutside : Type 0
-RejectsIffOutside =
-    (v : View) (x : ℕ) → Legal v
-    → (¬ PassesCount v x) ↔ ((d : ℕ) × Judged (v .pair) (then (v .held) x) d × (¬ Inside (v .pair) d (last (then (v .held) x) d)))
+-- The held ticks with the count x behind them.
+abbrev pub withTick : MonitorView → ℕ → List ℕ
+withTick w x = then (w .view .held) x
 
--- It answers the right verdict, which names the shortest such window.
+-- Some judged window that ends at the newest tick is outside its figures.
+abbrev pub SomeOutside : Pair → List ℕ → Type 0
+SomeOutside p xs = (d : ℕ) × Judged p xs d × (¬ Inside p d (last xs d))
+
+-- The tick is answered 'too many' or 'too few'.
+abbrev pub JudgedOutside : MonitorView → ℕ → Type 0
+JudgedOutside w x = (d : ℕ) × (Answers w x (judged (tooMany d)) ⊎ Answers w x (judged (tooFew d)))
+
+-- That is exactly when some window that ends there is outside its figures as given.
+abbrev pub OutsideIffSomeWindow : Type 0
+OutsideIffSomeWindow = (w : MonitorView) (x : ℕ) → Unfailed w → JudgedOutside w x ↔ SomeOutside (w .view .pair) (withTick w x)
+
+-- And the answer has the right verdict, which names the shortest such window.
 abbrev pub AnswersRight : Type 0
 AnswersRight =
-    (v : View) (x : ℕ) → Legal v → (w : Verdict)
-    → (judging (unfailed v) x ≡ result (judged w)) ↔ Right (v .pair) (then (v .held) x) w
+    (w : MonitorView) (x : ℕ) → Unfailed w → (v : Verdict) → ¬ (v ≡ passed)
+    → Answers w x (judged v) ↔ Right (w .view .pair) (withTick w x) v
+
+-- It is 'lost' exactly when no window is outside its figures as given, and some is outside the closed figures that the state holds.
+abbrev pub LostIffOutsideClosed : Type 0
+LostIffOutsideClosed =
+    (w : MonitorView) (x : ℕ) → Unfailed w
+    → Answers w x lost ↔ (Keeps (w .view .pair) (withTick w x) × SomeOutside (w .closed) (withTick w x))
+
+-- And it passes exactly when every window keeps both.
+abbrev pub PassesIffInsideBoth : Type 0
+PassesIffInsideBoth =
+    (w : MonitorView) (x : ℕ) → Unfailed w
+    → Answers w x (judged passed) ↔ (Keeps (w .view .pair) (withTick w x) × Keeps (w .closed) (withTick w x))
 
 -- ---- the monitor, freshly opened, over a whole stream
+abbrev pub Opens : Pair → Type 0
+Opens p = monitorOpening p ≡ result tt
+
 abbrev pub AllPass : Pair → List ℕ → Type 0
-AllPass p xs = Each (λ r. r ≡ result (judged passed)) (rulings (unfailed (fresh p)) xs)
+AllPass p xs = Each (λ r. r ≡ result (judged passed)) (rulings (freshMonitor p) xs)
 
-abbrev pub ConformsIffAllPass : Type 0
-ConformsIffAllPass = (p : Pair) → opening p ≡ result tt → (xs : List ℕ) → Conforms p xs ↔ AllPass p xs
-
--- While every tick has passed, the verdict on the next is right for the whole stream so far, of which the state holds the last ticks only.
+-- While every tick has passed, 'too many' and 'too few' are right for the whole stream so far, of which the state holds the last ticks.
 abbrev pub RightOfWholeStream : Type 0
 RightOfWholeStream =
-    (p : Pair) → opening p ≡ result tt → (xs : List ℕ) → AllPass p xs → (x : ℕ) (w : Verdict)
-    → (judging (afterTicks (unfailed (fresh p)) xs) x ≡ result (judged w)) ↔ Right p (then xs x) w
+    (p : Pair) → Opens p → (xs : List ℕ) → AllPass p xs → (x : ℕ) (v : Verdict) → ¬ (v ≡ passed)
+    → Answers (afterTicks (freshMonitor p) xs) x (judged v) ↔ Right p (then xs x) v
 
 -- Once a tick is rejected, every later one is answered 'already failed'.
 abbrev pub NothingPassesAfter : Type 0
 NothingPassesAfter =
-    (p : Pair) → opening p ≡ result tt → (xs : List ℕ) → AllPass p xs → (x : ℕ) → (¬ AllPass p (then xs x)) → (ys : List ℕ)
-    → Each (λ r. r ≡ result alreadyFailed) (rulings (afterTicks (unfailed (fresh p)) (then xs x)) ys)
+    (p : Pair) → Opens p → (xs : List ℕ) → AllPass p xs → (x : ℕ) → (¬ AllPass p (then xs x)) → (ys : List ℕ)
+    → Each (λ r. r ≡ result alreadyFailed) (rulings (afterTicks (freshMonitor p) (then xs x)) ys)
 
 -- ---- the generator on the same history
--- Some choice sends a count exactly when the monitor would pass it.
-abbrev pub SendsIffPasses : Type 0
-SendsIffPasses =
-    (v : View) → Legal v → (x : ℕ) → ((choice : ℕ) × (choice ≤ countLimit) × (sending v choice ≡ result x)) ↔ PassesCount v x
+-- The count is neither 'too many' nor 'too few' to a monitor.
+abbrev pub Neither : MonitorView → ℕ → Type 0
+Neither w x = ¬ JudgedOutside w x
 
--- The range, and a tick with any choice, are refused with 13 exactly when it would pass none.
-abbrev pub NoCountIffNonePasses : Type 0
-NoCountIffNonePasses =
-    (v : View) → Legal v
-    → ((ranging v ≡ refusal 13) ↔ ((x : ℕ) → ¬ PassesCount v x))
-    × ((choice : ℕ) → (sending v choice ≡ refusal 13) ↔ ((x : ℕ) → ¬ PassesCount v x))
+-- Some choice sends exactly these counts.
+abbrev pub SendsIffNeither : Type 0
+SendsIffNeither =
+    (w : MonitorView) → Unfailed w → (x : ℕ)
+    → ((choice : ℕ) × (choice ≤ countLimit) × (sending (w .view) choice ≡ result x)) ↔ Neither w x
 
--- The range shows the smallest and the largest that it would pass.
-pub record SmallestAndLargest (v : View) (b : RangeAnswer) : Type 0 where
-  pub lo-passes : PassesCount v (b .lo)
-  pub hi-passes : PassesCount v (b .hi)
-  pub smallest : (x : ℕ) → PassesCount v x → b .lo ≤ x
-  pub largest : (x : ℕ) → PassesCount v x → x ≤ b .hi
+-- The range, and a tick with any choice, are refused with 13 exactly when every count is one or the other.
+abbrev pub NoCountIffAllOutside : Type 0
+NoCountIffAllOutside =
+    (w : MonitorView) → Unfailed w
+    → ((ranging (w .view) ≡ refusal 13) ↔ ((x : ℕ) → JudgedOutside w x))
+    × ((choice : ℕ) → (sending (w .view) choice ≡ refusal 13) ↔ ((x : ℕ) → JudgedOutside w x))
+
+-- The range shows the smallest and the largest count that is neither.
+pub record SmallestAndLargest (w : MonitorView) (b : RangeAnswer) : Type 0 where
+  pub lo-admitted : Neither w (b .lo)
+  pub hi-admitted : Neither w (b .hi)
+  pub smallest : (x : ℕ) → Neither w x → b .lo ≤ x
+  pub largest : (x : ℕ) → Neither w x → x ≤ b .hi
 
 abbrev pub RangeShowsExtremes : Type 0
-RangeShowsExtremes = (v : View) → Legal v → (b : RangeAnswer) → (ranging v ≡ result b) ↔ SmallestAndLargest v b
+RangeShowsExtremes = (w : MonitorView) → Unfailed w → (b : RangeAnswer) → (ranging (w .view) ≡ result b) ↔ SmallestAndLargest w b
 
 -- From fresh openings the lists of counts that can be sent are the conforming ones.
 abbrev pub SendsConforming : Type 0

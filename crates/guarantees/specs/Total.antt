@@ -6,12 +6,13 @@ use mathlib.Core.List.{[], _∷_}
 use mathlib.Core.Logic.{_↔_}
 use Rattle.curves.specs.Pairs.{Pair}
 use Rattle.curves.specs.Questions.{FirstNo, refusal}
-use Rattle.history.specs.States.{View, question12}
+use Rattle.history.specs.States.{View}
 use Rattle.bounds.specs.Bounds.{pairQuestions}
 use Rattle.history.specs.Opening.{opening}
 use Rattle.monitor.specs.declared.Monitor.{Monitor}
 use Rattle.monitor.specs.declared.Judgement.{Judgement}
-use Rattle.monitor.specs.Monitoring.{MonitorView, judging}
+use Rattle.monitor.specs.Monitoring.{MonitorView, monitorQuestion12, judging}
+use Rattle.monitor.specs.Opening.{monitorQuestions, monitorOpening}
 use Rattle.monitor.specs.Answers.{verdictReply}
 use Rattle.monitor.specs.Promises.{MonitorTicked}
 use Rattle.generator.specs.declared.Generator.{Generator}
@@ -20,13 +21,17 @@ use Rattle.generator.specs.Generating.{rangeQuestions, ranging, sending}
 use Rattle.generator.specs.Answers.{sendingReply}
 use Rattle.generator.specs.Promises.{GeneratorTicked}
 
--- Opening a monitor or a generator: 1, 2, 4.
+-- Opening a generator: 1, 2, 4.
 abbrev pub OpeningRefused : Type 0
 OpeningRefused = (p : Pair) (n : ℕ) → (opening p ≡ refusal n) ↔ FirstNo (pairQuestions p) n
 
+-- Opening a monitor: 1, 2, 4, 5.
+abbrev pub MonitorOpeningRefused : Type 0
+MonitorOpeningRefused = (p : Pair) (n : ℕ) → (monitorOpening p ≡ refusal n) ↔ FirstNo (monitorQuestions p) n
+
 -- A tick of the monitor: 12, on a failed state too.
 abbrev pub JudgingRefused : Type 0
-JudgingRefused = (w : MonitorView) (x n : ℕ) → (judging w x ≡ refusal n) ↔ FirstNo (question12 (w .view) ∷ []) n
+JudgingRefused = (w : MonitorView) (x n : ℕ) → (judging w x ≡ refusal n) ↔ FirstNo (monitorQuestion12 w ∷ []) n
 
 -- The range, and a tick of the generator: 12, 13.
 abbrev pub RangingRefused : Type 0

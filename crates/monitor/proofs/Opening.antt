@@ -15,7 +15,7 @@ use Rattle.closure.specs.declared.Closing.the-variants as closing
 use Rattle.closure.proofs.Closing as the-closing
 use Rattle.closure.specs.Closing.{closing}
 use Rattle.closure.specs.Answers.{closingNumber, closingAnswer}
-use Rattle.closure.specs.Theorems.{PassesFour}
+use Rattle.closure.specs.Theorems.{PassesFour, GivesClosure}
 use Rattle.closure.proofs.Said.{gives-passes, closed-is}
 use Rattle.history.specs.declared.History.{History}
 use Rattle.history.specs.declared.Opening.{Opening}
@@ -82,7 +82,7 @@ module _ (p : Pair) where
     unfolding monitorOpening
     opening-yes c = sym (said-yes (monitorQuestions p) _ _ (result tt) (ys .0, (ys .1 .0, (ys .1 .1 .0, (c, tt)))) (λ _. refl))
 
-    opening-fifth : ¬ Closes p → refusal 5 ≡ monitorOpening p
+    pub opening-fifth : ¬ Closes p → refusal 5 ≡ monitorOpening p
     unfolding monitorOpening
     opening-fifth n = sym (said-no (monitorQuestions p) _ _ 5 (inr (ys .0, inr (ys .1 .0, inr (ys .1 .1 .0, inl (refl, n))))))
 
@@ -98,10 +98,18 @@ module _ (p : Pair) where
     closed-answers closing.FigureLimit e = opening-fifth (unclosed 4 (omega arith) e)
     closed-answers closing.NoClosure e = opening-fifth (unclosed 5 (omega arith) e)
 
-  -- Where it is not refused, all are answered yes.
-  pub opened-yes : monitorOpening p ≡ result tt → AllYes (pairQuestions p)
+  -- Where it is not refused, all are answered yes, and closing gives the closure.
+  opened-from : monitorOpening p ≡ result tt → AllYes (monitorQuestions p)
   unfolding monitorOpening
-  opened-yes e = let ys = result-from (monitorQuestions p) _ tt e .0 in (ys .0, (ys .1 .0, (ys .1 .1 .0, tt)))
+  opened-from e = result-from (monitorQuestions p) _ tt e .0
+
+  pub opened-yes : monitorOpening p ≡ result tt → AllYes (pairQuestions p)
+  opened-yes e = let ys = opened-from e in (ys .0, (ys .1 .0, (ys .1 .1 .0, tt)))
+
+  pub opened-gives : monitorOpening p ≡ result tt → GivesClosure p room
+  opened-gives e =
+      let (n, q, a) = opened-from e .1 .1 .1 .0 in
+      ap (λ r. r .number) (closed-is p room n q (room-passes (opened-yes e)) a)
 
   pub answers : (o : Opening) (c : Closing) → openingReply o ≡ opening p → closingNumber c ≡ closing p room .number
       → monitorOpeningReply (openingFor o c) ≡ monitorOpening p
