@@ -13,7 +13,7 @@ use Rattle.bounds.proofs.Said.{asking-yes, yes-from, no-from}
 use Rattle.closure.specs.declared.Closing.{Closing}
 use Rattle.closure.specs.declared.Closing.the-variants as closing
 use Rattle.closure.proofs.Closing as the-closing
-use Rattle.closure.specs.Closing.{closing}
+use Rattle.closure.specs.Closing.{ClosingAnswer, closing}
 use Rattle.closure.specs.Answers.{closingNumber, closingAnswer}
 use Rattle.closure.specs.Theorems.{PassesFour, GivesClosure}
 use Rattle.closure.proofs.Said.{gives-passes, closed-is}
@@ -111,12 +111,21 @@ module _ (p : Pair) where
       let (n, q, a) = opened-from e .1 .1 .1 .0 in
       ap (λ r. r .number) (closed-is p room n q (room-passes (opened-yes e)) a)
 
-  pub answers : (o : Opening) (c : Closing) → openingReply o ≡ opening p → closingNumber c ≡ closing p room .number
+  found-answers : (o : Opening) (c : Closing) → openingReply o ≡ opening p → closingNumber c ≡ closing p room .number
       → monitorOpeningReply (openingFor o c) ≡ monitorOpening p
-  answers asked.Opened c e f = closed-answers (yes-from p (sym e)) c f
-  answers asked.UpperLength c e f = opening-no 1 (no-from p 1 (sym e))
-  answers asked.LowerLength c e f = opening-no 2 (no-from p 2 (sym e))
-  answers asked.FigureLimit c e f = opening-no 4 (no-from p 4 (sym e))
+  found-answers asked.Opened c e f = closed-answers (yes-from p (sym e)) c f
+  found-answers asked.UpperLength c e f = opening-no 1 (no-from p 1 (sym e))
+  found-answers asked.LowerLength c e f = opening-no 2 (no-from p 2 (sym e))
+  found-answers asked.FigureLimit c e f = opening-no 4 (no-from p 4 (sym e))
+
+  pub answers : (a : MonitorOpening) (o : Opening) (c : Closing) → a ≡ openingFor o c → openingReply o ≡ opening p
+      → closingNumber c ≡ closing p room .number → monitorOpeningReply a ≡ monitorOpening p
+  answers a o c is e f = ap monitorOpeningReply is ∙ found-answers o c e f
+
+  -- The result lists that closing is lent are of zeros.
+  pub in-room : (a : ClosingAnswer) (us ls : List ℕ) → us ≡ replicate maxHorizon 0 → ls ≡ replicate maxHorizon 0
+      → a ≡ closing p (pairOf us ls) → a ≡ closing p room
+  in-room a us ls u l e = e ∙ (λ i. closing p (pairOf (u i) (l i)))
 
 -- ---- the state
 module _ (p : Pair) (h : History) (c : Closing) (us ls : List ℕ) (wide : length us ≡ maxHorizon) (wide′ : length ls ≡ maxHorizon)

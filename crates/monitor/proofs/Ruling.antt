@@ -13,11 +13,11 @@ use Rattle.monitor.specs.declared.Monitor.{Monitor}
 use Rattle.monitor.specs.declared.Verdict.{Verdict}
 use Rattle.monitor.specs.declared.Verdict.the-variants.{Passed, TooMany, TooFew, Lost, AlreadyFailed, BadState}
 use Rattle.monitor.proofs.Verdict.{the-type}
-use Rattle.monitor.specs.Monitoring.{monitorOf, monitorView, monitorViewOf, LegalMonitor, judged, lost, ruled, judging, passedOn}
-use Rattle.monitor.specs.Monitoring.{MonitorNext}
+use Rattle.monitor.specs.Monitoring.{MonitorView, monitorView, monitorOf, monitorViewOf, closedView, LegalMonitor, verdictOn}
+use Rattle.monitor.specs.Monitoring.{judged, lost, ruled, judging, passedOn, MonitorNext}
 use Rattle.monitor.specs.Answers.{verdictReply}
 use Rattle.monitor.specs.Steps.{HoldsWhere, HeldMore, HeldAsFound, Held, markAfter}
-use Rattle.monitor.proofs.Said.{judging-legal}
+use Rattle.monitor.proofs.Said.{judging-legal, judging-unfailed}
 
 -- ---- the ruling
 -- The tags of all cases but `Passed`.
@@ -55,6 +55,12 @@ ruled-passed v v′ u u′ k e k′ e′ =
     let h : ticks.passed ≡ u = cc (ap verdictReply k) in
     let h′ : ticks.passed ≡ u′ = cc (ap verdictReply k′) in
     λ i. result (ruled (h i) (h′ i))
+
+-- The two runs are on slices of what the state has.
+pub ruled-answers : (w : MonitorView) (x : ℕ) → LegalMonitor w → w .failed ≡ false → (r : Verdict) (v v′ : View)
+    → w .view ≡ v → closedView w ≡ v′ → verdictReply r ≡ result (ruled (verdictOn v x) (verdictOn v′ x)) → verdictReply r ≡ judging w x
+ruled-answers w x l f r v v′ e e′ is =
+    is ∙ (λ i. result (ruled (verdictOn (sym e i) x) (verdictOn (sym e′ i) x))) ∙ sym (judging-unfailed w x l f)
 
 -- ---- the next state
 -- A tick passes only where the state has its form.

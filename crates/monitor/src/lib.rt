@@ -236,9 +236,9 @@ fn rule(
         (verdictOn (viewWith (now (upper .entry)) (now (lower .entry)) (now (ticks .entry))) count)
         (verdictOn (viewWith (now («closed_upper» .entry)) (now («closed_lower» .entry)) (now (ticks .entry))) count)) ⌝ }
 {
-    let verdict = judge(upper, lower, ticks, count);
-    let Verdict::Passed = verdict else {
-        return verdict;
+    let first = judge(upper, lower, ticks, count);
+    let Verdict::Passed = first else {
+        return first;
     };
     let Verdict::Passed = judge(closed_upper, closed_lower, ticks, count) else {
         return Verdict::Lost;

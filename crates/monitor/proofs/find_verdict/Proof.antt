@@ -1,13 +1,13 @@
 -- `monitor::find_verdict` meets its contract: question 12, the failed mark and then the windows settle the answer.
 -- Assumes nothing.
-use Rattle.laws.proofs.Base.{_≡_, sym, _∙_, needs}
-use Rattle.curves.specs.Questions.{result}
+use Rattle.laws.proofs.Base.{sym, needs}
 use Rattle.history.specs.declared.History.{History}
 use Rattle.history.specs.States.{historyOf, viewOf}
 use Rattle.history.proofs.Said.{legal-from, illegal-from}
 use Rattle.history.proofs.Slicing.{Arrays, upper-length, lower-length, ticks-length, slices, view-sliced}
-use Rattle.monitor.specs.Monitoring.{MonitorView, monitorOf, monitorViewOf, LegalMonitor, verdictOn, ruled}
-use Rattle.monitor.proofs.Said.{judging-bad, judging-failed, judging-unfailed}
+use Rattle.monitor.specs.Monitoring.{MonitorView, monitorOf, monitorViewOf, LegalMonitor}
+use Rattle.monitor.proofs.Said.{judging-bad, judging-failed}
+use Rattle.monitor.proofs.Ruling.{ruled-answers}
 use Rattle.monitor.proofs.find_verdict.Statement.{statement}
 use Rattle.monitor.proofs.find_verdict.Tie as tie
 
@@ -25,14 +25,14 @@ returns : tie.Need-returns
 returns c =
     let s = c .before .before .before in
     let asked = c .before .before .ask-legality in
-    let no = illegal-from _ (asked .result) (asked .ensures .answer (s .args .ticks .now)) (c .enum-told2 .given .1) in
+    let no = illegal-from (viewOf (given s)) (asked .result) (asked .ensures .answer (s .args .ticks .now)) (c .enum-told2 .given .1) in
     sym (judging-bad (state s) _ (λ l. no (l .given)))
 
 returns-2 : tie.Need-returns-2
 returns-2 c =
     let s = c .before .before .before .before .before .before in
     let asked = c .before .before .ask-legality2 in
-    let no = illegal-from _ (asked .result) (asked .ensures .answer (s .args .ticks .now)) (c .enum-told4 .given .1) in
+    let no = illegal-from (viewOf (closed s)) (asked .result) (asked .ensures .answer (s .args .ticks .now)) (c .enum-told4 .given .1) in
     sym (judging-bad (state s) _ (λ l. no (l .closed)))
 
 -- Where question 12 is answered yes for both.
@@ -46,8 +46,8 @@ legal t =
     let asked′ = t .before .before .ask-legality2 in
     let xs = start t .args .ticks .now in
     record {
-      given = legal-from _ (asked .result) (asked .ensures .answer xs) (first .enum-told .given .1);
-      closed = legal-from _ (asked′ .result) (asked′ .ensures .answer xs) (t .enum-told3 .given .1);
+      given = legal-from (viewOf (given (start t))) (asked .result) (asked .ensures .answer xs) (first .enum-told .given .1);
+      closed = legal-from (viewOf (closed (start t))) (asked′ .result) (asked′ .ensures .answer xs) (t .enum-told3 .given .1);
     }
 
 -- Where all five arrays are slices.
@@ -80,12 +80,9 @@ returns-4 : tie.Need-returns-4
 returns-4 c =
     let e = c .before .before .before .before .before .before in
     let t = told e in
-    let x = start t .args .count in
-    let same = view-sliced (given (start t)) (given-arrays e) (legal t .given) in
-    let same′ = view-sliced (closed (start t)) (closed-arrays e) (legal t .closed) in
-    c .rule .ensures
-    ∙ (λ i. result (ruled (verdictOn (sym same i) x) (verdictOn (sym same′ i) x)))
-    ∙ sym (judging-unfailed (state (start t)) x (legal t) (e .before .before .before .before .before .if1 .left))
+    ruled-answers (state (start t)) (start t .args .count) (legal t) (e .before .before .before .before .before .if1 .left) (c .rule .result)
+    _ _ (view-sliced (given (start t)) (given-arrays e) (legal t .given))
+    (view-sliced (closed (start t)) (closed-arrays e) (legal t .closed)) (c .rule .ensures)
 
 pub find-verdict-spec : {M : Type 1} → statement M
 find-verdict-spec =

@@ -1,10 +1,8 @@
 -- `monitor::Monitor::open` meets its promise: the answer is that of the questions and of closing, and the state follows from it.
 -- Assumes nothing.
-use Rattle.laws.proofs.Base.{ap, _∙_, needs}
+use Rattle.laws.proofs.Base.{ap, needs}
 use Rattle.curves.specs.Pairs.{Pair, pairOf}
-use Rattle.closure.specs.Closing.{closing}
-use Rattle.monitor.specs.Answers.{monitorOpeningReply}
-use Rattle.monitor.proofs.Opening.{answers, begun-is}
+use Rattle.monitor.proofs.Opening.{in-room, answers, begun-is}
 use Rattle.monitor.proofs.Monitor.open.Statement.{statement}
 use Rattle.monitor.proofs.Monitor.open.Tie as tie
 
@@ -16,10 +14,10 @@ returns c =
     let zeros = c .before .before .before .before .before .before .before .before .before in
     let args = zeros .before .before .before .before .args in
     let p : Pair = pairOf (args .upper .now) (args .lower .now) in
-    let closes = close .ensures ∙ (λ i. closing p (pairOf (zeros .before .zeros .ensures i) (zeros .zeros2 .ensures i))) in
+    let closes = in-room p _ _ _ (zeros .before .zeros .ensures) (zeros .zeros2 .ensures) (close .ensures) in
     let answer =
-    ap monitorOpeningReply (found .ensures)
-    ∙ answers p (start .result .opening) (close .result) (start .ensures .answer) (ap (λ a. a .number) closes) in
+    answers p (found .result) (start .result .opening) (close .result) (found .ensures) (start .ensures .answer)
+    (ap (λ a. a .number) closes) in
     record {
       answer = answer;
       state =
