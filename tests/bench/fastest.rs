@@ -5,7 +5,7 @@
 
 use crate::plain;
 use crate::ring::Ring;
-use crate::subject::{refused, ALREADY_FAILED, HEADER, LIMIT, LONGEST_HORIZON, NO_COUNT, PASSED, TOO_FEW, TOO_MANY};
+use crate::subject::{refusal_of, refused, ALREADY_FAILED, HEADER, LIMIT, LONGEST_HORIZON, LOST, NO_COUNT, PASSED, TOO_FEW, TOO_MANY};
 
 /// Windows of one block.
 const BLOCK: usize = 32;
@@ -98,7 +98,7 @@ pub fn close_core(upper: &[u32], lower: &[u32], closed_upper: &mut [u32], closed
     rounds
 }
 
-/// Whether some window is outside. The sums fit: what is held keeps the upper curve, and the count is at most the limit.
+/// Whether some window is outside. The sums fit: what is held keeps the closed upper curve, and the count is at most the limit.
 #[inline(always)]
 fn outside(ring: &Ring, upper: &[u32], lower: &[u32], count: u32) -> bool {
     let (before, latest) = ring.before();
@@ -126,13 +126,24 @@ fn verdict(ring: &Ring, upper: &[u32], lower: &[u32], count: u32) -> u32 {
     PASSED
 }
 
+/// No closed figure is looser than the one it closes, so a tick that keeps the closed curves keeps those as given: one pass over the
+/// closed ones tells what passes, and the others are looked at only once, for what the first that does not pass is called.
 #[inline(always)]
 pub fn judge_core(upper: &[u32], lower: &[u32], script: &mut [u32]) -> u32 {
-    let mut ring = Ring::new(upper.len());
+    let horizon = upper.len();
+    let (mut closed_upper, mut closed_lower) = ([0; LONGEST_HORIZON], [0; LONGEST_HORIZON]);
+    let number = refusal_of(close_core(upper, lower, &mut closed_upper[..horizon], &mut closed_lower[..horizon]));
+    if number != 0 {
+        return number;
+    }
+    let mut ring = Ring::new(horizon);
     for tick in 0..script.len() {
         let count = script[tick];
-        if count > LIMIT || outside(&ring, upper, lower, count) {
-            script[tick] = verdict(&ring, upper, lower, count);
+        if count > LIMIT || outside(&ring, &closed_upper[..horizon], &closed_lower[..horizon], count) {
+            script[tick] = match verdict(&ring, upper, lower, count) {
+                PASSED => LOST,
+                verdict => verdict,
+            };
             script[tick + 1..].fill(ALREADY_FAILED);
             break;
         }

@@ -3,7 +3,8 @@
 //! All but closing are the product's own algorithms.
 
 use crate::subject::{
-    refused, ALREADY_FAILED, HEADER, LIMIT, LONGEST_HORIZON, LONGEST_TEXT, NO_COUNT, PASSED, TEXT_LIMIT, TOO_FEW, TOO_MANY,
+    refusal_of, refused, ALREADY_FAILED, HEADER, LIMIT, LONGEST_HORIZON, LONGEST_TEXT, LOST, NO_COUNT, PASSED, TEXT_LIMIT, TOO_FEW,
+    TOO_MANY,
 };
 
 pub fn opening(upper: &[u32], lower: &[u32]) -> u32 {
@@ -69,42 +70,43 @@ pub fn close(upper: &[u32], lower: &[u32], closed_upper: &mut [u32], closed_lowe
     rounds
 }
 
-/// A state as it goes in and comes out. The last tick is held first.
-struct State {
+/// What a generator's state is, and a monitor's has, as it goes in and comes out. The last tick is held first.
+struct History {
     upper: [u32; LONGEST_HORIZON],
     lower: [u32; LONGEST_HORIZON],
     held: [u32; LONGEST_HORIZON],
     horizon: usize,
     held_ticks: usize,
-    failed: bool,
 }
 
-impl State {
-    fn open(upper: &[u32], lower: &[u32]) -> State {
+/// Every figure is compared even after one that is too great, which the compiler turns into wide instructions.
+fn within_limit(list: &[u32]) -> bool {
+    !list.iter().fold(false, |over, &figure| over | (figure > LIMIT))
+}
+
+impl History {
+    fn open(upper: &[u32], lower: &[u32]) -> History {
         let nothing = [0; LONGEST_HORIZON];
-        let mut state = State {
+        let mut history = History {
             upper: nothing,
             lower: nothing,
             held: nothing,
             horizon: upper.len(),
             held_ticks: 0,
-            failed: false,
         };
-        state.upper[..upper.len()].copy_from_slice(upper);
-        state.lower[..lower.len()].copy_from_slice(lower);
-        state
+        history.upper[..upper.len()].copy_from_slice(upper);
+        history.lower[..lower.len()].copy_from_slice(lower);
+        history
     }
 
-    /// Every figure is compared even after one that is too great, which the compiler turns into wide instructions.
     fn well_formed(&self) -> bool {
-        let within = |list: &[u32]| !list.iter().fold(false, |over, &figure| over | (figure > LIMIT));
         (1..=LONGEST_HORIZON).contains(&self.horizon)
             && self.held_ticks < self.horizon
-            && within(&self.upper[..self.horizon])
-            && within(&self.lower[..self.horizon])
+            && within_limit(&self.upper[..self.horizon])
+            && within_limit(&self.lower[..self.horizon])
     }
 
-    fn hold(mut self, count: u32) -> State {
+    fn hold(mut self, count: u32) -> History {
         let kept = self.held_ticks.min(self.horizon.saturating_sub(2));
         self.held.copy_within(..kept, 1);
         self.held[0] = count;
@@ -112,16 +114,16 @@ impl State {
         self
     }
 
-    /// The verdict on a count: windows one after the other, up to the first that is outside.
-    fn verdict(&self, count: u32) -> u32 {
+    /// What the figures of one pair say of a count: windows one after the other, up to the first that is outside.
+    fn verdict(&self, upper: &[u32; LONGEST_HORIZON], lower: &[u32; LONGEST_HORIZON], count: u32) -> u32 {
         let mut sum = u64::from(count);
         let windows = self.held_ticks + 1;
         for place in 0..windows {
             // SAFETY: there are fewer held ticks than the horizon, which is at most 256.
             let (upper, lower, held) = unsafe {
                 (
-                    *self.upper.get_unchecked(place),
-                    *self.lower.get_unchecked(place),
+                    *upper.get_unchecked(place),
+                    *lower.get_unchecked(place),
                     *self.held.get_unchecked(place),
                 )
             };
@@ -155,22 +157,7 @@ impl State {
         (lo, hi)
     }
 
-    fn monitor_tick(self, count: u32) -> (State, u32) {
-        if !self.well_formed() {
-            return (self, 12);
-        }
-        if self.failed {
-            return (self, ALREADY_FAILED);
-        }
-        let verdict = self.verdict(count);
-        if verdict == PASSED {
-            (self.hold(count), PASSED)
-        } else {
-            (State { failed: true, ..self }, verdict)
-        }
-    }
-
-    fn generator_tick(self, choice: u32) -> (State, u32) {
+    fn generator_tick(self, choice: u32) -> (History, u32) {
         if !self.well_formed() {
             return (self, 12);
         }
@@ -183,24 +170,75 @@ impl State {
     }
 }
 
-fn run_script(upper: &[u32], lower: &[u32], script: &mut [u32], tick: impl Fn(State, u32) -> (State, u32)) -> u32 {
-    let number = opening(upper, lower);
+struct Monitor {
+    history: History,
+    closed_upper: [u32; LONGEST_HORIZON],
+    closed_lower: [u32; LONGEST_HORIZON],
+    failed: bool,
+}
+
+impl Monitor {
+    fn well_formed(&self) -> bool {
+        self.history.well_formed()
+            && within_limit(&self.closed_upper[..self.history.horizon])
+            && within_limit(&self.closed_lower[..self.history.horizon])
+    }
+
+    /// By the figures as given, then by the closed ones.
+    fn verdict(&self, count: u32) -> u32 {
+        let history = &self.history;
+        match history.verdict(&history.upper, &history.lower, count) {
+            PASSED if history.verdict(&self.closed_upper, &self.closed_lower, count) != PASSED => LOST,
+            verdict => verdict,
+        }
+    }
+
+    fn tick(self, count: u32) -> (Monitor, u32) {
+        if !self.well_formed() {
+            return (self, 12);
+        }
+        if self.failed {
+            return (self, ALREADY_FAILED);
+        }
+        match self.verdict(count) {
+            PASSED => {
+                let history = self.history.hold(count);
+                (Monitor { history, ..self }, PASSED)
+            }
+            verdict => (Monitor { failed: true, ..self }, verdict),
+        }
+    }
+}
+
+pub fn judge(upper: &[u32], lower: &[u32], script: &mut [u32]) -> u32 {
+    let (mut closed_upper, mut closed_lower) = ([0; LONGEST_HORIZON], [0; LONGEST_HORIZON]);
+    // The result lists are long enough for every horizon, so that this asks what the opening asks.
+    let number = refusal_of(close(upper, lower, &mut closed_upper, &mut closed_lower));
     if number != 0 {
         return number;
     }
-    let mut state = State::open(upper, lower);
+    let mut monitor = Monitor {
+        history: History::open(upper, lower),
+        closed_upper,
+        closed_lower,
+        failed: false,
+    };
     for entry in script {
-        (state, *entry) = tick(state, *entry);
+        (monitor, *entry) = monitor.tick(*entry);
     }
     0
 }
 
-pub fn judge(upper: &[u32], lower: &[u32], script: &mut [u32]) -> u32 {
-    run_script(upper, lower, script, State::monitor_tick)
-}
-
 pub fn generate(upper: &[u32], lower: &[u32], script: &mut [u32]) -> u32 {
-    run_script(upper, lower, script, State::generator_tick)
+    let number = opening(upper, lower);
+    if number != 0 {
+        return number;
+    }
+    let mut generator = History::open(upper, lower);
+    for entry in script {
+        (generator, *entry) = generator.generator_tick(*entry);
+    }
+    0
 }
 
 /// The number that stands before `end`, and what follows it.

@@ -1,8 +1,8 @@
-//! The mutants: one plain implementation with one fault each. Three faults are not among them, since no call over the boundary can show
-//! them:
+//! The mutants: one plain implementation with one fault each. Some faults are shown by no call over the boundary, as no state crosses it:
+//! a tick that is held though it was rejected, as a failed monitor answers 'already failed' whatever it holds; the order of 'too many' and
+//! 'too few', as no tick after one that passed is both; and what is asked of a state. These are told apart on the states that the program
+//! `limits` is given, where the state that comes back is compared too. Two faults are not among the mutants, since nothing shows them:
 //!
-//! - A rejected tick that is held, with the mark of a failed monitor set. A failed monitor answers 'already failed' whatever it holds, and
-//!   no state crosses the boundary. The program `limits` shows the state that comes back.
 //! - A difference cut off at 0, in a round. U d and L d are the old figures, which do not cross, so none is below 0 or above the limit.
 //!   For a least it changes nothing, as no old least is below 0. For a ceiling: where U (d + t) - L t is below 0, the new ceiling of t is
 //!   at most U (d + t) - L d, or 0 where that is cut off, and so below L t: window t crosses in the same round.
@@ -52,10 +52,16 @@ pub enum Fault {
     Horizon256Refused,
     Horizon257Taken,
     // Openings.
-    OpeningAsksFive,
     OpeningAsksNoLimit,
     OpeningAsksFourFirst,
     ScriptClearedOnRefusal,
+    GeneratorAsksFive,
+    OpeningAsksFiveFirst,
+    ClosesNothing,
+    ClosesByOneRound,
+    NeverFive,
+    FiveForGivenCrossing,
+    FiveForUnclosed,
     // Monitor.
     EmptyTicksBefore,
     Recovers,
@@ -70,6 +76,24 @@ pub enum Fault {
     LowerItselfTooFew,
     WindowFromZero,
     FirstTickOnly,
+    RejectedHeld,
+    FailedBeforeTwelve,
+    // Lost.
+    NeverLost,
+    LostFirst,
+    ClosedAlone,
+    LostNamesWindow,
+    LostNotMarked,
+    LostGoesOn,
+    LostHeld,
+    LostRepeated,
+    LostByUpperOnly,
+    LostByLowerOnly,
+    LostByFirstWindow,
+    LostByLastWindow,
+    LostOnceFilled,
+    LostByClosingAnew,
+    ClosedNotLimited,
     // Generator.
     SendsZeroForNoCount,
     HoldsForNoCount,
@@ -154,10 +178,16 @@ pub const MUTANTS: &[(Fault, &str)] = &[
     (LowerNotLimited, "figures: lower curve above the limit taken"),
     (Horizon256Refused, "figures: 256 windows refused"),
     (Horizon257Taken, "figures: 257 windows taken"),
-    (OpeningAsksFive, "opening: crossed figures refused"),
     (OpeningAsksNoLimit, "opening: the limit not asked"),
     (OpeningAsksFourFirst, "opening: 4 asked before 2"),
     (ScriptClearedOnRefusal, "opening: script cleared on a refusal"),
+    (GeneratorAsksFive, "opening a generator: crossed figures refused"),
+    (OpeningAsksFiveFirst, "opening a monitor: 5 asked before 4"),
+    (ClosesNothing, "opening a monitor: nothing closed, and never 5"),
+    (ClosesByOneRound, "opening a monitor: one round only"),
+    (NeverFive, "opening a monitor: closed, and never 5"),
+    (FiveForGivenCrossing, "opening a monitor: 5 for given crossing only"),
+    (FiveForUnclosed, "opening a monitor: 5 for every unclosed pair"),
     (EmptyTicksBefore, "monitor: empty ticks before the first"),
     (Recovers, "monitor: recovers"),
     (RecoversAndHolds, "monitor: recovers and holds the bad tick"),
@@ -171,6 +201,23 @@ pub const MUTANTS: &[(Fault, &str)] = &[
     (LowerItselfTooFew, "monitor: the least itself is too few"),
     (WindowFromZero, "monitor: windows named from 0"),
     (FirstTickOnly, "monitor: the first tick judged, the rest passed"),
+    (RejectedHeld, "monitor: a rejected tick held"),
+    (FailedBeforeTwelve, "monitor: already failed before 12"),
+    (NeverLost, "lost: never"),
+    (LostFirst, "lost: before too many and too few"),
+    (ClosedAlone, "lost: never, but judged by the closed figures alone"),
+    (LostNamesWindow, "lost: names a window"),
+    (LostNotMarked, "lost: the monitor not failed"),
+    (LostGoesOn, "lost: the monitor not failed, and the tick held"),
+    (LostHeld, "lost: the tick held"),
+    (LostRepeated, "lost: again at each later tick"),
+    (LostByUpperOnly, "lost: by closed ceilings only"),
+    (LostByLowerOnly, "lost: by closed leasts only"),
+    (LostByFirstWindow, "lost: by the window of one tick only"),
+    (LostByLastWindow, "lost: by the longest judged window only"),
+    (LostOnceFilled, "lost: only once the horizon is filled"),
+    (LostByClosingAnew, "lost: by the given figures closed anew"),
+    (ClosedNotLimited, "lost: closed figures above the limit taken"),
     (SendsZeroForNoCount, "generator: sends 0 where there is no count"),
     (HoldsForNoCount, "generator: a tick held where there is no count"),
     (AlwaysNoCount, "generator: 13 always"),

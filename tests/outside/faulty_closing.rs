@@ -7,10 +7,25 @@ pub struct Faulty {
     pub fault: Fault,
 }
 
+/// Two curves; entry d is the window of d ticks.
 #[derive(Clone, PartialEq)]
-struct Figures {
-    upper: Vec<i64>,
-    lower: Vec<i64>,
+pub struct Figures {
+    pub upper: Vec<i64>,
+    pub lower: Vec<i64>,
+}
+
+impl Figures {
+    pub fn new(upper: &[u32], lower: &[u32]) -> Figures {
+        let widened = |list: &[u32]| [0].into_iter().chain(list.iter().map(|&figure| i64::from(figure))).collect();
+        Figures {
+            upper: widened(upper),
+            lower: widened(lower),
+        }
+    }
+
+    pub fn horizon(&self) -> usize {
+        self.upper.len() - 1
+    }
 }
 
 impl Faulty {
@@ -23,7 +38,7 @@ impl Faulty {
         horizon < 1 || horizon > longest
     }
 
-    fn over_limit(&self, upper: &[u32], lower: &[u32]) -> bool {
+    pub fn over_limit(&self, upper: &[u32], lower: &[u32]) -> bool {
         let limit = LIMIT + u32::from(self.has(LimitOneMore)) - u32::from(self.has(LimitOneLess));
         let lower = if self.has(LowerNotLimited) { &[] } else { lower };
         upper.iter().chain(lower).any(|&figure| figure > limit)
@@ -34,7 +49,7 @@ impl Faulty {
         horizon.saturating_sub(usize::from(self.has(HorizonNotCrossed)))
     }
 
-    fn given_crosses(&self, upper: &[u32], lower: &[u32]) -> bool {
+    pub fn given_crosses(&self, upper: &[u32], lower: &[u32]) -> bool {
         let windows = self.compared_windows(upper.len());
         upper[..windows].iter().zip(lower).any(|(upper, lower)| lower > upper)
     }
@@ -60,6 +75,7 @@ impl Faulty {
         questions.iter().find(|question| question.1).map_or(0, |question| question.0)
     }
 
+    /// Questions 1, 2 and 4.
     pub fn opening(&self, upper: &[u32], lower: &[u32]) -> u32 {
         let over = !self.has(OpeningAsksNoLimit) && self.over_limit(upper, lower);
         if self.too_long(upper.len()) {
@@ -73,9 +89,6 @@ impl Faulty {
         }
         if over {
             return 4;
-        }
-        if self.has(OpeningAsksFive) && self.given_crosses(upper, lower) {
-            return 5;
         }
         0
     }
@@ -93,7 +106,7 @@ impl Faulty {
     }
 
     fn differences(&self, old: &Figures, new: &mut Figures, d: usize) {
-        let mut last = old.upper.len() - 1 - d;
+        let mut last = old.horizon() - d;
         match self.fault {
             ShortDifferences => last = last.saturating_sub(1),
             FarDifferences => last = last.min(128),
@@ -109,9 +122,9 @@ impl Faulty {
         }
     }
 
-    fn round(&self, old: &Figures) -> Figures {
+    pub fn round(&self, old: &Figures) -> Figures {
         let mut new = old.clone();
-        for d in 1..old.upper.len() {
+        for d in 1..=old.horizon() {
             let from = if self.has(RoundsInPlace) { new.clone() } else { old.clone() };
             self.sums(&from, &mut new, d);
             self.differences(&from, &mut new, d);
@@ -124,7 +137,7 @@ impl Faulty {
             return false;
         }
         let equal = i64::from(self.has(CrossingAtEqual));
-        let windows = self.compared_windows(figures.upper.len() - 1);
+        let windows = self.compared_windows(figures.horizon());
         (1..=windows).any(|d| figures.lower[d] + equal > figures.upper[d])
     }
 
@@ -139,12 +152,8 @@ impl Faulty {
     }
 
     /// The figures at which the rounds stop, their count, and whether they cross there.
-    fn rounds(&self, upper: &[u32], lower: &[u32]) -> (Figures, u32, bool) {
-        let widened = |list: &[u32]| [0].into_iter().chain(list.iter().map(|&figure| i64::from(figure))).collect();
-        let mut figures = Figures {
-            upper: widened(upper),
-            lower: widened(lower),
-        };
+    pub fn rounds(&self, given: Figures) -> (Figures, u32, bool) {
+        let mut figures = given;
         let mut rounds = 0;
         while !self.crosses(&figures, rounds) && rounds < self.most_rounds() {
             let next = self.round(&figures);
@@ -168,9 +177,8 @@ impl Faulty {
             *entry = if self.has(ZerosAlways) { 0 } else { *figure as u32 };
         }
         if self.has(TailsCleared) {
-            let horizon = figures.upper.len() - 1;
-            closed_upper[horizon..].fill(0);
-            closed_lower[horizon..].fill(0);
+            closed_upper[figures.horizon()..].fill(0);
+            closed_lower[figures.horizon()..].fill(0);
         }
     }
 
@@ -183,7 +191,7 @@ impl Faulty {
             (0, _) => {}
             (_, _) => return refused(number),
         }
-        let (figures, rounds, crosses) = self.rounds(upper, lower);
+        let (figures, rounds, crosses) = self.rounds(Figures::new(upper, lower));
         if !crosses || self.has(ResultsOnRefusal) {
             self.write(&figures, closed_upper, closed_lower);
         }

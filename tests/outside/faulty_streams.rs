@@ -1,130 +1,65 @@
-//! The monitor and the generator with a fault: with held ticks, as the rule describes them.
+//! The generator with a fault, and what it shares with the monitor: a history with held ticks, as the rule describes it.
 
 use crate::faults::Fault::*;
-use crate::faulty_closing::Faulty;
-use crate::subject::{ALREADY_FAILED, NO_COUNT, PASSED, TOO_FEW, TOO_MANY};
+use crate::faulty_closing::{Faulty, Figures};
+use crate::subject::NO_COUNT;
 
-/// A pair, the ticks held, and what a failed monitor failed with.
-struct State<'a> {
-    upper: &'a [u32],
-    lower: &'a [u32],
-    held: Vec<u32>,
-    failed: u32,
+/// A pair and the ticks held.
+pub struct History {
+    pub given: Figures,
+    pub held: Vec<u32>,
 }
 
-impl State<'_> {
-    fn horizon(&self) -> usize {
-        self.upper.len()
+impl History {
+    pub fn horizon(&self) -> usize {
+        self.given.horizon()
     }
 
     /// The sum of the last held ticks, as many as there are up to `ticks`.
-    fn before(&self, ticks: usize) -> i64 {
+    pub fn before(&self, ticks: usize) -> i64 {
         let start = self.held.len().saturating_sub(ticks);
         self.held[start..].iter().map(|&count| i64::from(count)).sum()
-    }
-
-    fn upper_of(&self, window: usize) -> i64 {
-        i64::from(self.upper[window - 1])
-    }
-
-    fn lower_of(&self, window: usize) -> i64 {
-        i64::from(self.lower[window - 1])
     }
 }
 
 impl Faulty {
-    fn hold(&self, state: &mut State, count: u32) {
-        let mut room = state.horizon() - 1;
+    pub fn hold(&self, history: &mut History, count: u32) {
+        let mut room = history.horizon() - 1;
         match self.fault {
             LastWindowNotJudged => room = room.saturating_sub(1),
             HeldOneTooMany => room += 1,
             _ => {}
         }
-        state.held.push(count);
-        while state.held.len() > room {
-            state.held.remove(0);
+        history.held.push(count);
+        while history.held.len() > room {
+            history.held.remove(0);
         }
     }
 
-    fn judged_windows(&self, state: &State) -> usize {
-        if self.has(EmptyTicksBefore) {
-            return state.horizon();
-        }
-        state.horizon().min(state.held.len() + 1)
-    }
-
-    fn window_sum(&self, state: &State, count: u32, window: usize) -> i64 {
-        let whole = self.has(HeldOneTooMany) && window == state.horizon();
-        i64::from(count) + state.before(if whole { window } else { window - 1 })
-    }
-
-    /// The verdict of one window by itself.
-    fn window_verdict(&self, state: &State, count: u32, window: usize) -> u32 {
-        let sum = self.window_sum(state, count, window);
-        let many = sum + i64::from(self.has(UpperItselfTooMany)) > state.upper_of(window);
-        let few = sum - i64::from(self.has(LowerItselfTooFew)) < state.lower_of(window);
-        let named = window as u32 - u32::from(self.has(WindowFromZero));
-        match (many, few) {
-            (true, true) if self.has(TooFewFirst) => TOO_FEW + named,
-            (true, _) => TOO_MANY + named,
-            (_, true) => TOO_FEW + named,
-            _ => PASSED,
-        }
-    }
-
-    fn verdict(&self, state: &State, count: u32) -> u32 {
-        if self.has(FirstTickOnly) && !state.held.is_empty() {
-            return PASSED;
-        }
-        let all: Vec<u32> = (1..=self.judged_windows(state))
-            .map(|window| self.window_verdict(state, count, window))
-            .collect();
-        let mut outside = all.iter().copied().filter(|&verdict| verdict != PASSED);
-        let found = match self.fault {
-            LongestWindow => outside.next_back(),
-            TooManyOverAll => outside.clone().find(|&verdict| verdict < TOO_FEW).or(outside.next()),
-            _ => outside.next(),
-        };
-        found.unwrap_or(PASSED)
-    }
-
-    fn monitor_tick(&self, state: &mut State, count: u32) -> u32 {
-        if state.failed != PASSED {
-            return if self.has(VerdictRepeated) { state.failed } else { ALREADY_FAILED };
-        }
-        let verdict = self.verdict(state, count);
-        if verdict == PASSED || self.has(RecoversAndHolds) {
-            self.hold(state, count);
-        } else if !self.has(Recovers) {
-            state.failed = verdict;
-        }
-        verdict
-    }
-
-    fn range(&self, state: &State) -> (i64, i64) {
+    fn range(&self, history: &History) -> (i64, i64) {
         let mut lo = 0;
         let mut hi = i64::from(u32::MAX);
         let all = if self.has(EmptyTicksBeforeSending) {
-            state.horizon()
+            history.horizon()
         } else {
-            state.held.len() + 1
+            history.held.len() + 1
         };
-        let windows = state.horizon().min(all);
+        let windows = history.horizon().min(all);
         for window in 1..=windows {
-            let before = state.before(window - 1);
-            hi = hi.min(state.upper_of(window) - before);
+            let before = history.before(window - 1);
+            hi = hi.min(history.given.upper[window] - before);
             if !self.has(LoIgnored) && (window == windows || !self.has(LowerOfOneWindowOnly)) {
-                lo = lo.max(state.lower_of(window) - before);
+                lo = lo.max(history.given.lower[window] - before);
             }
         }
         (lo, hi)
     }
 
-    fn generator_tick(&self, state: &mut State, choice: u32) -> u32 {
-        let (lo, hi) = self.range(state);
+    fn generator_tick(&self, history: &mut History, choice: u32) -> u32 {
+        let (lo, hi) = self.range(history);
         if lo > hi || self.has(AlwaysNoCount) {
             if self.has(HoldsForNoCount) {
-                self.hold(state, 0);
+                self.hold(history, 0);
             }
             return if self.has(SendsZeroForNoCount) { 0 } else { NO_COUNT };
         }
@@ -134,43 +69,33 @@ impl Faulty {
             _ => i64::from(choice) % (hi - lo + 1),
         };
         let count = (lo + more) as u32;
-        self.hold(state, count);
+        self.hold(history, count);
         count
     }
 
-    fn opened<'a>(&self, upper: &'a [u32], lower: &'a [u32], script: &mut [u32]) -> Result<State<'a>, u32> {
-        let number = self.opening(upper, lower);
-        if number == 0 {
-            return Ok(State {
-                upper,
-                lower,
-                held: Vec::new(),
-                failed: PASSED,
-            });
-        }
+    /// What a refused opening gives back.
+    pub fn refuse(&self, number: u32, script: &mut [u32]) -> u32 {
         if self.has(ScriptClearedOnRefusal) {
             script.fill(0);
         }
-        Err(number)
-    }
-
-    pub fn judge_into(&self, upper: &[u32], lower: &[u32], script: &mut [u32]) -> u32 {
-        match self.opened(upper, lower, script) {
-            Err(number) => number,
-            Ok(mut state) => {
-                script.iter_mut().for_each(|entry| *entry = self.monitor_tick(&mut state, *entry));
-                0
-            }
-        }
+        number
     }
 
     pub fn generate_into(&self, upper: &[u32], lower: &[u32], script: &mut [u32]) -> u32 {
-        match self.opened(upper, lower, script) {
-            Err(number) => number,
-            Ok(mut state) => {
-                script.iter_mut().for_each(|entry| *entry = self.generator_tick(&mut state, *entry));
-                0
-            }
+        let number = match self.opening(upper, lower) {
+            0 if self.has(GeneratorAsksFive) && self.given_crosses(upper, lower) => 5,
+            number => number,
+        };
+        if number != 0 {
+            return self.refuse(number, script);
         }
+        let mut history = History {
+            given: Figures::new(upper, lower),
+            held: Vec::new(),
+        };
+        script
+            .iter_mut()
+            .for_each(|entry| *entry = self.generator_tick(&mut history, *entry));
+        0
     }
 }

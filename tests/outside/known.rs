@@ -1,12 +1,13 @@
 //! Figures with answers worked out beforehand, so that the reference is held to something outside itself too.
 
 use crate::closings;
+use crate::known_streams;
 use crate::pairs;
 use crate::random::Rng;
 use crate::reading;
 use crate::reference::Reference;
 use crate::rounds;
-use crate::subject::{refused, shown, Subject, LIMIT, NO_COUNT};
+use crate::subject::{refused, shown, Subject, LIMIT};
 use crate::tally::Tally;
 
 type Figures = &'static [u32];
@@ -77,48 +78,6 @@ fn check_closing(subject: &dyn Subject, known: &Closing) -> Result<(), String> {
         "{input}\nexpected {expected}\ncame {}\n  {closed_upper:?}\n  {closed_lower:?}",
         shown(answer)
     ))
-}
-
-fn expect(name: &str, expected: &[u32], came: &[u32]) -> Result<(), String> {
-    if expected == came {
-        return Ok(());
-    }
-    Err(format!("{name}\nexpected {expected:?}\ncame {came:?}"))
-}
-
-/// The published pair, not closed: the start 0, 2, 1, 0, 2, 0 conforms and has no next count. The choices are those that send it.
-fn check_no_count(subject: &dyn Subject) -> Result<(), String> {
-    let (upper, lower) = ([3, 6, 3, 12, 9], [0, 0, 0, 0, 5]);
-    let mut counts = [0, 2, 1, 0, 2, 0, 0, 1];
-    subject.judge(&upper, &lower, &mut counts);
-    expect(
-        "judge 0, 2, 1, 0, 2, 0, 0, 1 on the published pair",
-        &[0, 0, 0, 0, 0, 0, 2_005, 3_000],
-        &counts,
-    )?;
-    let mut choices = [0, 2, 1, 0, 0, 0, 0, 1];
-    subject.generate(&upper, &lower, &mut choices);
-    expect(
-        "generate with 0, 2, 1, 0, 0, 0, 0, 1 on the published pair",
-        &[0, 2, 1, 0, 2, 0, NO_COUNT, NO_COUNT],
-        &choices,
-    )
-}
-
-/// On a closed pair, after 2, 1 the counts 0 to 2 can follow, after 2, 1, 0, 2 the counts 0 and 1: the next choice of 2 shows it.
-fn check_range(subject: &dyn Subject) -> Result<(), String> {
-    let (upper, lower) = ([2, 3, 5, 5], [0, 0, 1, 3]);
-    for (choice, count) in [(0, 0), (1, 1), (2, 2), (3, 0), (u32::MAX, 0)] {
-        let mut choices = [2, 1, choice];
-        subject.generate(&upper, &lower, &mut choices);
-        expect(&format!("generate with 2, 1, {choice}"), &[2, 1, count], &choices)?;
-    }
-    for (choice, count) in [(0, 0), (1, 1), (2, 0), (3, 1)] {
-        let mut choices = [2, 1, 0, 2, choice];
-        subject.generate(&upper, &lower, &mut choices);
-        expect(&format!("generate with 2, 1, 0, 2, {choice}"), &[2, 1, 0, 2, count], &choices)?;
-    }
-    Ok(())
 }
 
 const TEXTS: &[(&[u8], &[u8])] = &[
@@ -212,8 +171,7 @@ pub fn compare(subject: &dyn Subject, rng: &mut Rng, tally: &mut Tally) -> Resul
         for (text, expected) in TEXTS {
             check_text(implementor, text, expected)?;
         }
-        check_no_count(implementor)?;
-        check_range(implementor)?;
+        known_streams::check(implementor)?;
         check_long(implementor, rng, tally)?;
     }
     Ok(())

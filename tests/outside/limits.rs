@@ -1,27 +1,15 @@
 //! The lines that the program `limits` has to write: lists at the limits, pairs of many rounds, and states built by hand. Its
 //! numbers are drawn here as they are drawn there; what comes of them is computed by the reference.
 
-use crate::pairs;
+use crate::pairs::{self, Pair};
 use crate::reference::Reference;
-use crate::streams::{chosen, range, verdict};
-use crate::subject::{Subject, LIMIT, LONGEST_HORIZON, PASSED, TOO_FEW, TOO_MANY};
+use crate::states::{digest, drawn, Judged, State, CASES};
+use crate::streams::verdict;
+use crate::subject::{Subject, ALREADY_FAILED, LIMIT, LONGEST_HORIZON, LOST, PASSED, REFUSED};
+use crate::tally::{Tally, BOTH, BUILT, BUILT_LOOSER, BUILT_REJECTED, BUILT_TWELVE};
 
-const CASES: u64 = 400;
-
-fn scramble(x: u64) -> u64 {
-    let a = x ^ (x << 13);
-    let b = a ^ (a >> 7);
-    b ^ (b << 17)
-}
-
-/// The k-th number of a case, below `end`.
-fn draw(case: u64, k: u64, end: u64) -> u64 {
-    scramble(scramble(scramble(case ^ (k << 20) ^ 88_172_645_463_325_252))) % end
-}
-
-fn digest(numbers: &[u32]) -> u64 {
-    numbers.iter().fold(1, |sum, &number| (sum * 31 + u64::from(number)) % (1 << 31))
-}
+/// As the run prints it.
+pub const NAME: &str = "lines of limits";
 
 /// One line on a pair of lists with the same figures throughout.
 fn lists_line(n: usize, upper_figure: u32, lower_figure: u32) -> String {
@@ -59,124 +47,9 @@ fn text_line(text: &[u8]) -> String {
     rounds_line(&upper[..horizon], &lower[..horizon])
 }
 
-struct State {
-    horizon: u64,
-    held: u64,
-    failed: bool,
-    upper: Vec<u32>,
-    lower: Vec<u32>,
-    ticks: Vec<u32>,
-}
-
-fn draw_count(case: u64, k: u64, odd: u64, end: u64) -> u32 {
-    match draw(case, k, odd) {
-        0 => LIMIT,
-        1 => LIMIT + 1,
-        2 => u32::MAX,
-        _ => draw(case, k ^ 8_192, end) as u32,
-    }
-}
-
-fn draw_counts(case: u64, k: u64, odd: u64, end: u64) -> Vec<u32> {
-    (0..LONGEST_HORIZON as u64).map(|i| draw_count(case, k ^ i, odd, end)).collect()
-}
-
-fn draw_size(case: u64, k: u64, end: u64) -> u64 {
-    match draw(case, k, 24) {
-        0 => LONGEST_HORIZON as u64,
-        1 => LONGEST_HORIZON as u64 + 1,
-        2 => u64::MAX,
-        _ => draw(case, k ^ 1, end),
-    }
-}
-
-fn draw_state(case: u64) -> State {
-    let odd = if draw(case, 3, 4) == 0 { 24 } else { 1_000_000 };
-    State {
-        horizon: draw_size(case, 4, 11),
-        held: draw_size(case, 6, 1 + draw(case, 8, 10)),
-        failed: draw(case, 1, 4) == 0,
-        upper: draw_counts(case, 1_024, odd, 1 + draw(case, 9, 90)),
-        lower: draw_counts(case, 2_048, odd, 1 + draw(case, 10, 9)),
-        ticks: draw_counts(case, 3_072, 24, 1 + draw(case, 11, 6)),
-    }
-}
-
-impl State {
-    fn is_legal(&self) -> bool {
-        let sizes = 1 <= self.horizon && self.horizon <= LONGEST_HORIZON as u64 && self.held < self.horizon;
-        sizes && self.upper_curve().iter().chain(self.lower_curve()).all(|&figure| figure <= LIMIT)
-    }
-
-    fn upper_curve(&self) -> &[u32] {
-        &self.upper[..self.horizon as usize]
-    }
-
-    fn lower_curve(&self) -> &[u32] {
-        &self.lower[..self.horizon as usize]
-    }
-
-    fn stream(&self) -> &[u32] {
-        &self.ticks[..self.held as usize]
-    }
-
-    /// Every entry: the state came back as it was.
-    fn whole(&self) -> String {
-        format!(
-            "{} {} {} {} {}",
-            self.horizon,
-            self.held,
-            digest(&self.upper),
-            digest(&self.lower),
-            digest(&self.ticks)
-        )
-    }
-
-    /// What is settled of the state with one tick more.
-    fn with(&self, count: u32) -> String {
-        let mut stream = self.stream().to_vec();
-        stream.push(count);
-        let held = stream.len().min(self.horizon as usize - 1);
-        let ticks = digest(&stream[stream.len() - held..]);
-        format!(
-            "{} {held} {} {} {ticks}",
-            self.horizon,
-            digest(self.upper_curve()),
-            digest(self.lower_curve())
-        )
-    }
-
-    fn judged(&self, count: u32) -> String {
-        if !self.is_legal() {
-            return format!("12 0 {} {}", u8::from(self.failed), self.whole());
-        }
-        if self.failed {
-            return format!("3 0 1 {}", self.whole());
-        }
-        let mut stream = self.stream().to_vec();
-        stream.push(count);
-        match verdict(self.upper_curve(), self.lower_curve(), &stream) {
-            PASSED => format!("0 0 0 {}", self.with(count)),
-            few if few > TOO_FEW => format!("2 {} 1 {}", few - TOO_FEW, self.whole()),
-            many => format!("1 {} 1 {}", many - TOO_MANY, self.whole()),
-        }
-    }
-
-    fn sent(&self, choice: u32) -> String {
-        if !self.is_legal() {
-            return format!("12 0 12 0 {}", self.whole());
-        }
-        match range(self.upper_curve(), self.lower_curve(), self.stream()) {
-            None => format!("13 0 13 0 {}", self.whole()),
-            Some((lo, hi)) => format!("{lo} {hi} 0 {} {}", chosen(lo, hi, choice), self.with(chosen(lo, hi, choice))),
-        }
-    }
-}
-
 fn state_line(case: u64) -> String {
-    let state = draw_state(case);
-    let count = draw_count(case, 2, 12, 4);
-    format!("state {case} {} {}", state.judged(count), state.sent(count))
+    let (state, count) = drawn(case);
+    format!("state {case} {} {}", state.judged_line(count), state.sent_line(count))
 }
 
 /// All lines, in order.
@@ -195,8 +68,53 @@ fn lines() -> Vec<String> {
     lists.chain(longest).chain((1..=CASES).map(state_line)).collect()
 }
 
+/// Whether the tick is outside both ways, so that the order of comparing matters: in one window, or in different ones. In a script it
+/// never is, since a stream that a monitor passed can go on.
+fn note_both(pair: &Pair, stream: &[u32], tally: &mut Tally) {
+    let (mut many, mut few) = (None, None);
+    for window in (1..=pair.horizon().min(stream.len())).rev() {
+        let total: u64 = stream[stream.len() - window..].iter().map(|&count| u64::from(count)).sum();
+        if total > u64::from(pair.upper[window - 1]) {
+            many = Some(window);
+        }
+        if total < u64::from(pair.lower[window - 1]) {
+            few = Some(window);
+        }
+    }
+    if many.is_some() && few.is_some() {
+        tally.note(BOTH, u32::from(many == few));
+    }
+}
+
+fn looser_somewhere(closed: &Pair, given: &Pair) -> bool {
+    let upper_looser = closed.upper.iter().zip(&given.upper).any(|(closed, given)| closed > given);
+    upper_looser || closed.lower.iter().zip(&given.lower).any(|(closed, given)| closed < given)
+}
+
+/// What came up in one state.
+fn note(state: &State, count: u32, tally: &mut Tally) {
+    let answer = state.judged(count).answer;
+    tally.note(BUILT, if answer < REFUSED { answer / 1_000 } else { answer - REFUSED });
+    if !state.has_sizes() {
+        return;
+    }
+    let (given, closed, stream) = (state.given(), state.closed(), state.stream_with(count));
+    if closed.over_limit() {
+        tally.note(BUILT_TWELVE, u32::from(!given.over_limit()));
+    }
+    match answer {
+        ALREADY_FAILED | REFUSED.. => {}
+        PASSED | LOST if looser_somewhere(&closed, &given) => tally.note(BUILT_LOOSER, answer / 1_000),
+        PASSED | LOST => {}
+        _ => {
+            tally.note(BUILT_REJECTED, u32::from(verdict(&closed.upper, &closed.lower, &stream) != PASSED));
+            note_both(&given, &stream, tally);
+        }
+    }
+}
+
 /// The lines that are stored for the program, against those computed. Gives back how many there are.
-pub fn compare(stored: &str) -> Result<usize, String> {
+pub fn compare(stored: &str, tally: &mut Tally) -> Result<usize, String> {
     let text = std::fs::read_to_string(stored).map_err(|error| format!("{stored}: {error}"))?;
     let expected = lines();
     for (place, line) in expected.iter().enumerate() {
@@ -205,8 +123,20 @@ pub fn compare(stored: &str) -> Result<usize, String> {
             return Err(format!("{stored}, line {}:\n  expected {line}\n  found    {found}", place + 1));
         }
     }
+    for case in 1..=CASES {
+        let (state, count) = drawn(case);
+        note(&state, count, tally);
+    }
     match text.lines().count() == expected.len() {
         true => Ok(expected.len()),
         false => Err(format!("{stored}: more than the {} lines expected", expected.len())),
     }
+}
+
+/// The first state on which a monitor's tick comes to something else than it must.
+pub fn told_apart(tick: impl Fn(&State, u32) -> Judged) -> Option<u64> {
+    (1..=CASES).find(|&case| {
+        let (state, count) = drawn(case);
+        tick(&state, count) != state.judged(count)
+    })
 }

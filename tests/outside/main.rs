@@ -11,10 +11,13 @@ mod comparisons;
 mod extensions;
 mod faults;
 mod faulty_closing;
+mod faulty_monitor;
 mod faulty_streams;
 mod faulty_text;
 mod known;
+mod known_streams;
 mod limits;
+mod lost;
 mod mutants;
 mod odd_texts;
 mod pairs;
@@ -27,6 +30,7 @@ mod reference;
 mod rounds;
 mod script_cases;
 mod scripts;
+mod states;
 mod streams;
 mod subject;
 mod tally;
@@ -80,7 +84,7 @@ fn run(name: &str, work: Work, case: &Case, tally: &mut Tally) -> Result<(), Str
 /// All comparisons with the product, and how often each answer came up.
 fn run_product(given: &Arguments) -> Result<Tally, String> {
     let mut tally = Tally::default();
-    println!("  {:<24} {:>9} agree", "lines of limits", limits::compare(&given.limits)?);
+    println!("  {:<24} {:>9} agree", limits::NAME, limits::compare(&given.limits, &mut tally)?);
     for (number, comparison) in COMPARISONS.iter().enumerate() {
         let work = work_of(number, comparison.cases * given.factor, given.seed);
         run(

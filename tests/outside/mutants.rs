@@ -7,6 +7,7 @@ use std::thread;
 use crate::comparisons::{work_of, COMPARISONS, PROMISES};
 use crate::faults::{Fault, MUTANTS};
 use crate::faulty_closing::Faulty;
+use crate::limits;
 use crate::subject::Subject;
 use crate::workers::locked;
 
@@ -60,6 +61,10 @@ fn catch(fault: Fault, seed: u64) -> Caught {
             caught.first = caught.first.or(Some((comparison.name, case)));
             caught.by_promises |= comparison.name == PROMISES;
         }
+    }
+    if caught.first.is_none() {
+        let told = limits::told_apart(|state, count| Faulty { fault }.judge_state(state, count));
+        caught.first = told.map(|case| (limits::NAME, case));
     }
     caught
 }

@@ -11,6 +11,13 @@ pub struct Pair {
 }
 
 impl Pair {
+    pub fn new(upper: &[u32], lower: &[u32]) -> Pair {
+        Pair {
+            upper: upper.to_vec(),
+            lower: lower.to_vec(),
+        }
+    }
+
     fn filled(horizon: usize, upper: u32, lower: u32) -> Pair {
         Pair {
             upper: vec![upper; horizon],
@@ -27,6 +34,11 @@ impl Pair {
         self.upper.len()
     }
 
+    /// Whether question 4 is answered no.
+    pub fn over_limit(&self) -> bool {
+        self.upper.iter().chain(&self.lower).any(|&figure| figure > LIMIT)
+    }
+
     fn set_upper(&mut self, window: usize, figure: u64) {
         self.upper[window - 1] = figure.min(u64::from(LIMIT)) as u32;
     }
@@ -36,15 +48,17 @@ impl Pair {
     }
 }
 
+/// The closure, where there is one.
+pub fn closure(pair: &Pair) -> Option<Pair> {
+    rounds::close(&pair.upper, &pair.lower).map(|closed| Pair {
+        upper: rounds::narrowed(&closed.curves.upper),
+        lower: rounds::narrowed(&closed.curves.lower),
+    })
+}
+
 /// The closure where there is one, else the pair itself.
 pub fn closed(pair: &Pair) -> Pair {
-    match rounds::close(&pair.upper, &pair.lower) {
-        None => pair.clone(),
-        Some(closed) => Pair {
-            upper: rounds::narrowed(&closed.curves.upper),
-            lower: rounds::narrowed(&closed.curves.lower),
-        },
-    }
+    closure(pair).unwrap_or_else(|| pair.clone())
 }
 
 pub fn long_horizon(rng: &mut Rng) -> usize {
@@ -233,4 +247,32 @@ pub fn lasting(rng: &mut Rng, horizon: usize) -> Pair {
         2 => loosened(rng, horizon),
         _ => from_constraints(rng, horizon),
     }
+}
+
+/// A pair that has a closure and is another: most of these let streams begin that cannot go on. There is none with one window.
+pub fn unclosed(rng: &mut Rng, horizon: usize) -> Pair {
+    loop {
+        let pair = match rng.below(8) {
+            0 => about_a_rate(rng, horizon),
+            1 => increasing(rng, horizon),
+            2 => from_constraints(rng, horizon),
+            3 => two_windows(rng, horizon),
+            4 => nearly_closed(rng, horizon),
+            _ => loosened(rng, horizon),
+        };
+        if closure(&pair).is_some_and(|closed| closed != pair) {
+            return pair;
+        }
+    }
+}
+
+/// A ceiling for the horizon and a least for a short window. After a burst, the least and no more can follow, and it is a long window
+/// that tells so.
+pub fn burst(rng: &mut Rng, horizon: usize) -> Pair {
+    let mut pair = Pair::loose(horizon);
+    let window = rng.length(1, 3.min(horizon));
+    let lower = rng.between(1, 4);
+    pair.lower[window - 1] = lower;
+    pair.upper[horizon - 1] = lower * (1 + horizon / window) as u32 + rng.below(90);
+    pair
 }

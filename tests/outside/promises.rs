@@ -1,11 +1,13 @@
 //! What a closure is for, on small pairs, against all streams that there are: it is refused exactly where there is no unbounded stream;
-//! a start conforms to it exactly when it is extendable; each of its figures is met; a generator on it never stops.
+//! a start conforms to it exactly when it is extendable; each of its figures is met; a generator on it never stops, and a monitor on it
+//! never says 'lost'. What a monitor on the pair itself says is told in `lost`.
 
 use crate::extensions::Extensions;
+use crate::lost;
 use crate::pairs::Pair;
 use crate::random::Rng;
 use crate::streams::{conforms, verdict};
-use crate::subject::{refusal_of, Subject, NO_COUNT, PASSED};
+use crate::subject::{refusal_of, Subject, LOST, NO_COUNT, PASSED};
 use crate::tally::{Tally, EQUAL, EXTENDABLE, START};
 
 /// Figures so small that every past can be tried.
@@ -147,14 +149,14 @@ fn check_generator(subject: &dyn Subject, rng: &mut Rng, pair: &Pair, closed: &P
     Ok(())
 }
 
-/// A monitor on the closure rejects the first tick with which the stream is not extendable any more.
+/// A monitor on the closure rejects the first tick with which the stream is not extendable any more, as too many or too few.
 fn check_monitor(subject: &dyn Subject, rng: &mut Rng, pair: &Pair, closed: &Pair, extensions: &Extensions) -> Result<(), String> {
     let counts: Vec<u32> = (0..rng.length(0, 12)).map(|_| rng.below(extensions.top + 2)).collect();
     let mut judged = counts.clone();
     subject.judge(&closed.upper, &closed.lower, &mut judged);
     let passed = judged.iter().take_while(|&&verdict| verdict == PASSED).count();
     let longest = (0..=counts.len()).filter(|&end| extensions.is_extendable(&counts[..end])).max();
-    if longest != Some(passed) || judged[passed..].contains(&PASSED) {
+    if longest != Some(passed) || judged[passed..].contains(&PASSED) || judged.contains(&LOST) {
         return Err(format!(
             "a monitor on the closure of\n{}\n{}\ngiven {counts:?}\nanswers {judged:?}",
             shown(pair),
@@ -179,6 +181,7 @@ pub fn compare(subject: &dyn Subject, rng: &mut Rng, tally: &mut Tally) -> Resul
             extensions.any_stream()
         ));
     }
+    lost::check(subject, rng, &pair, &extensions, tally)?;
     let Some(closed) = closed else { return Ok(()) };
     check_pasts(&pair, &closed, &extensions)?;
     check_starts(&pair, &closed, &extensions, &mut Vec::new(), tally)?;

@@ -2,7 +2,7 @@
 
 use crate::pairs::{self, Pair};
 use crate::random::Rng;
-use crate::streams::sent;
+use crate::streams::{chosen, range, sent};
 use crate::subject::{LIMIT, LONGEST_HORIZON, NO_COUNT};
 
 const LONGEST_SCRIPT: usize = 600;
@@ -83,17 +83,6 @@ fn counts(rng: &mut Rng, pair: &Pair, length: usize) -> Vec<u32> {
     list
 }
 
-/// Crossed figures and a stream with a sum that is above the ceiling and below the least of one window, so that the order counts.
-fn between_crossed(rng: &mut Rng) -> (Pair, Vec<u32>) {
-    let window = rng.length(1, 6);
-    let counts: Vec<u32> = (0..window + rng.length(0, 3)).map(|_| rng.below(4)).collect();
-    let total: u32 = counts[..window].iter().sum();
-    let mut pair = Pair::loose(window + rng.length(0, 2));
-    pair.upper[window - 1] = total.saturating_sub(1);
-    pair.lower[window - 1] = total + 1;
-    (pair, counts)
-}
-
 /// Figures for one window only, a long one often, and counts that repeat after its length, so that every sum of that window is the
 /// same; then one count that is off.
 fn one_window(rng: &mut Rng) -> (Pair, Vec<u32>) {
@@ -111,11 +100,109 @@ fn one_window(rng: &mut Rng) -> (Pair, Vec<u32>) {
     (pair, counts)
 }
 
+/// Where a stream lies between lo and hi.
+#[derive(Clone, Copy)]
+enum Lean {
+    Low,
+    High,
+    Anywhere,
+}
+
+/// A stream that keeps the closure until it strays.
+struct Course {
+    length: usize,
+    /// The first tick at which it may stray, if some count there does.
+    start: usize,
+    burst_ticks: usize,
+    burst: Lean,
+    after: Lean,
+}
+
+fn course(rng: &mut Rng) -> Course {
+    let length = rng.length(1, LONGEST_SCRIPT);
+    Course {
+        length,
+        start: if rng.one_in(3) { rng.length(0, 12) } else { rng.length(0, length) },
+        burst_ticks: rng.length(0, 4),
+        burst: rng.pick(&[Lean::Low, Lean::High]),
+        after: rng.pick(&[Lean::Low, Lean::High, Lean::Anywhere, Lean::Anywhere]),
+    }
+}
+
+/// A count that keeps the pair and not its closure, next to what the closure allows or farther away; now and then one that keeps
+/// neither. Nothing where there is none.
+fn stray(rng: &mut Rng, given: (u32, u32), closed: (u32, u32)) -> Option<u32> {
+    if rng.one_in(6) {
+        return Some(if rng.one_in(2) { given.1 + 1 } else { given.0.saturating_sub(1) });
+    }
+    let mut counts = Vec::new();
+    if given.0 < closed.0 {
+        counts.extend([closed.0 - 1, rng.between(given.0, closed.0 - 1)]);
+    }
+    if closed.1 < given.1 {
+        counts.extend([closed.1 + 1, rng.between(closed.1 + 1, given.1)]);
+    }
+    if counts.is_empty() {
+        None
+    } else {
+        Some(rng.pick(&counts))
+    }
+}
+
+/// The counts of a course. What follows the tick at which it strays is not judged any more, whatever it is.
+fn straying(rng: &mut Rng, pair: &Pair, course: &Course) -> Vec<u32> {
+    let closed = pairs::closed(pair);
+    let mut counts = Vec::new();
+    while let Some((lo, hi)) = range(&closed.upper, &closed.lower, &counts).filter(|_| counts.len() < course.length) {
+        let outer = if counts.len() < course.start {
+            None
+        } else {
+            range(&pair.upper, &pair.lower, &counts)
+        };
+        if let Some(count) = outer.and_then(|outer| stray(rng, outer, (lo, hi))) {
+            counts.push(count);
+            break;
+        }
+        let lean = if counts.len() < course.burst_ticks {
+            course.burst
+        } else {
+            course.after
+        };
+        counts.push(match lean {
+            Lean::Low => lo,
+            Lean::High => hi,
+            Lean::Anywhere => chosen(lo, hi, rng.any()),
+        });
+    }
+    counts.resize_with(course.length.max(counts.len()), || rng.below(5));
+    counts
+}
+
+/// An unclosed pair, and a stream that is lost somewhere if it can be.
+fn lost_somewhere(rng: &mut Rng) -> (Pair, Vec<u32>) {
+    let horizon = match rng.below(100) {
+        0..=3 => pairs::long_horizon(rng),
+        4..=13 => rng.length(13, 64),
+        _ => rng.length(2, 12),
+    };
+    let mut course = course(rng);
+    let pair = if rng.one_in(8) {
+        (course.burst_ticks, course.burst, course.after) = (1, Lean::High, Lean::Low);
+        course.start = if rng.one_in(2) { horizon - 2 } else { rng.length(0, horizon) };
+        course.length = course.length.max(horizon);
+        pairs::burst(rng, horizon)
+    } else {
+        pairs::unclosed(rng, horizon)
+    };
+    let counts = straying(rng, &pair, &course);
+    (pair, counts)
+}
+
 /// A pair and counts for a monitor on it.
 pub fn for_monitor(rng: &mut Rng) -> (Pair, Vec<u32>) {
     match rng.below(20) {
-        0 => between_crossed(rng),
-        1..=2 => one_window(rng),
+        0..=1 => one_window(rng),
+        2..=8 => lost_somewhere(rng),
         _ => {
             let pair = pair(rng);
             let length = rng.length(0, LONGEST_SCRIPT);

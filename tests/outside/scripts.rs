@@ -1,13 +1,14 @@
 //! Scripts: streams of counts through a monitor and lists of choices through a generator.
 
-use crate::pairs::Pair;
+use crate::pairs::{closed, Pair};
+use crate::paths;
 use crate::random::Rng;
 use crate::reference::Reference;
-use crate::rounds::opening;
 use crate::script_cases::{for_generator, for_monitor, spoil};
-use crate::streams::conforms;
-use crate::subject::{Subject, ALREADY_FAILED, LIMIT, NO_COUNT, PASSED, TOO_FEW, TOO_MANY};
-use crate::tally::{Tally, BOTH, FAILED, FEW, GENERATOR, LO, MANY, MONITOR, OPENING, SENT, STOPPED, VERDICT};
+use crate::streams::{conforms, verdict};
+use crate::subject::{Subject, ALREADY_FAILED, LONGEST_HORIZON, LOST, NO_COUNT, PASSED, TOO_FEW, TOO_MANY};
+use crate::tally::{Tally, FAILED, FEW, GENERATOR, LO, MANY, MONITOR, OPENING, REJECTED, SENT, STOPPED, VERDICT};
+use crate::tally::{HORIZONS, LOST_BY, LOST_EARLY, LOST_LATE, LOST_LATER, LOST_WINDOW};
 
 /// Entries on either side of a script, which no call may touch.
 const MARGIN: usize = 4;
@@ -55,30 +56,34 @@ fn note_verdicts(list: &[u32], tally: &mut Tally) {
     }
 }
 
-/// Whether the rejected tick was outside both ways, so that the order of comparing matters: in its window, or in different ones.
-fn note_both(pair: &Pair, stream: &[u32], tally: &mut Tally) {
-    let (mut many, mut few) = (None, None);
-    for window in (1..=pair.horizon().min(stream.len())).rev() {
-        let total: u64 = stream[stream.len() - window..].iter().map(|&count| u64::from(count)).sum();
-        if total > u64::from(pair.upper[window - 1]) {
-            many = Some(window);
-        }
-        if total < u64::from(pair.lower[window - 1]) {
-            few = Some(window);
-        }
+/// What the closed figures say of a rejected tick: the only ones that it breaks, or in a shorter window than those as given.
+fn note_rejected(pair: &Pair, closed: &Pair, stream: &[u32], found: u32, tally: &mut Tally) {
+    let by_closed = verdict(&closed.upper, &closed.lower, stream);
+    if found != LOST {
+        tally.note(REJECTED, u32::from(by_closed != found));
+        return;
     }
-    if many.is_some() && few.is_some() {
-        tally.note(BOTH, u32::from(many == few));
-    }
+    let horizon = HORIZONS.iter().find(|&&end| pair.horizon() <= end as usize).copied();
+    let kind = [LOST_EARLY, LOST_LATER, LOST_LATER, LOST_LATE][age(stream.len() - 1) as usize];
+    tally.note(kind, horizon.unwrap_or(0));
+    tally.note(LOST_WINDOW, by_closed % 1_000);
+    tally.note(LOST_BY, by_closed / 1_000);
 }
 
-/// The passed ticks are the longest start that conforms: by the sum of every window of it. A difference here is inside the reference.
+/// The passed ticks are the longest start that conforms to the closure, which is found by shortest paths here; the tick after them is
+/// lost exactly where with it the stream conforms to the pair as given: by the sum of every window. A difference here is inside the
+/// reference.
 fn check_start(pair: &Pair, counts: &[u32], verdicts: &[u32]) -> Result<(), String> {
     let passed = verdicts.iter().take_while(|&&verdict| verdict == PASSED).count();
-    let start_conforms = conforms(&pair.upper, &pair.lower, &counts[..passed]);
-    let next_does = passed < counts.len() && conforms(&pair.upper, &pair.lower, &counts[..passed + 1]);
     let rest_failed = verdicts.iter().skip(passed + 1).all(|&verdict| verdict == ALREADY_FAILED);
-    if start_conforms && !next_does && rest_failed {
+    let agrees = paths::close(&pair.upper, &pair.lower).is_some_and(|(upper, lower)| {
+        let start_conforms = conforms(&upper, &lower, &counts[..passed]);
+        let next = counts.get(..passed + 1);
+        let next_does = next.is_some_and(|start| conforms(&upper, &lower, start));
+        let next_is_lost = next.is_some_and(|start| conforms(&pair.upper, &pair.lower, start));
+        start_conforms && !next_does && next_is_lost == (verdicts.get(passed) == Some(&LOST))
+    });
+    if agrees && rest_failed {
         return Ok(());
     }
     Err(format!(
@@ -87,44 +92,70 @@ fn check_start(pair: &Pair, counts: &[u32], verdicts: &[u32]) -> Result<(), Stri
     ))
 }
 
+/// A monitor on the closure rejects the same tick, and never as lost.
+fn check_on_closure(subject: &dyn Subject, closed: &Pair, counts: &[u32], verdicts: &[u32]) -> Result<(), String> {
+    let (number, on_closure) = check(subject, "judge", judge, closed, counts)?;
+    let same_tick = on_closure
+        .iter()
+        .zip(verdicts)
+        .all(|(one, other)| (*one == PASSED) == (*other == PASSED));
+    if number == 0 && same_tick && !on_closure.contains(&LOST) {
+        return Ok(());
+    }
+    Err(format!(
+        "a monitor on the closure\n  {:?}\n  {:?}\ngiven {counts:?}\nanswers {on_closure:?}, on the pair {verdicts:?}",
+        closed.upper, closed.lower
+    ))
+}
+
 /// Early or late: in the first ten ticks, the first hundred, the first three hundred, or after.
 fn age(tick: usize) -> u32 {
     [10, 100, 300].iter().filter(|&&end| tick >= end).count() as u32
 }
 
-fn spoil_sometimes(rng: &mut Rng, pair: &mut Pair, tally: &mut Tally) {
+fn spoil_sometimes(rng: &mut Rng, pair: &mut Pair) {
     if rng.one_in(10) {
         for _ in 0..rng.between(1, 2) {
             spoil(rng, pair);
         }
     }
-    let number = opening(&pair.upper, &pair.lower, None);
-    let over = pair.upper.iter().chain(&pair.lower).any(|&figure| figure > LIMIT);
-    if over && number != 4 {
-        tally.note(OPENING, 10 * number + 4);
-    }
-    if number == 1 && pair.lower.len() != pair.upper.len() {
-        tally.note(OPENING, 12);
+}
+
+/// Which questions of an opening have the answer no, each asked by itself; of 5, which a monitor's opening alone asks, only whether
+/// the given figures cross.
+fn note_faults(pair: &Pair, asks_five: bool, tally: &mut Tally) {
+    let crosses = pair.upper.iter().zip(&pair.lower).any(|(upper, lower)| lower > upper);
+    let asked = [
+        (1, pair.upper.is_empty() || pair.upper.len() > LONGEST_HORIZON),
+        (2, pair.lower.len() != pair.upper.len()),
+        (4, pair.over_limit()),
+        (5, asks_five && crosses),
+    ];
+    let mut faults = asked.iter().filter(|question| question.1).map(|question| question.0);
+    if let Some(first) = faults.next() {
+        faults.for_each(|other| tally.note(OPENING, 10 * first + other));
     }
 }
 
 pub fn compare_monitor(subject: &dyn Subject, rng: &mut Rng, tally: &mut Tally) -> Result<(), String> {
     let (mut pair, script) = for_monitor(rng);
-    spoil_sometimes(rng, &mut pair, tally);
+    spoil_sometimes(rng, &mut pair);
+    note_faults(&pair, true, tally);
     let (number, verdicts) = check(subject, "judge", judge, &pair, &script)?;
     tally.note(MONITOR, number);
     if number != 0 {
         return Ok(());
     }
+    let closed = closed(&pair);
     note_verdicts(&verdicts, tally);
     if let Some(failed) = verdicts.iter().position(|&verdict| verdict != PASSED) {
         tally.note(FAILED, age(failed));
-        note_both(&pair, &script[..failed + 1], tally);
+        note_rejected(&pair, &closed, &script[..failed + 1], verdicts[failed], tally);
     }
     if pair.horizon() <= 12 {
         check_start(&pair, &script, &verdicts)?;
     }
-    Ok(())
+    check_on_closure(subject, &closed, &script, &verdicts)
 }
 
 /// What is sent keeps the pair, by the sum of every window; and where no count is sent, no small one would keep it.
@@ -169,9 +200,26 @@ fn note_sent(pair: &Pair, list: &[u32], tally: &mut Tally) {
     }
 }
 
+/// What a generator sends on a pair is neither too many nor too few for a monitor on it. Where it came to an end, the stream was lost
+/// before, or there never was one.
+fn check_judged(subject: &dyn Subject, pair: &Pair, list: &[u32]) -> Result<(), String> {
+    let stream: Vec<u32> = list.iter().copied().take_while(|&count| count != NO_COUNT).collect();
+    let (number, verdicts) = check(subject, "judge", judge, pair, &stream)?;
+    let neither = verdicts.iter().all(|&verdict| matches!(verdict, PASSED | LOST | ALREADY_FAILED));
+    let told = stream.len() == list.len() || verdicts.contains(&LOST);
+    if number == 5 || (number == 0 && neither && told) {
+        return Ok(());
+    }
+    Err(format!(
+        "a monitor on\n  {:?}\n  {:?}\nanswers {number} {verdicts:?} to what a generator sent\n  {list:?}",
+        pair.upper, pair.lower
+    ))
+}
+
 pub fn compare_generator(subject: &dyn Subject, rng: &mut Rng, tally: &mut Tally) -> Result<(), String> {
     let (mut pair, script) = for_generator(rng);
-    spoil_sometimes(rng, &mut pair, tally);
+    spoil_sometimes(rng, &mut pair);
+    note_faults(&pair, false, tally);
     let (number, list) = check(subject, "generate", generate, &pair, &script)?;
     tally.note(GENERATOR, number);
     if number != 0 {
@@ -180,6 +228,7 @@ pub fn compare_generator(subject: &dyn Subject, rng: &mut Rng, tally: &mut Tally
     note_sent(&pair, &list, tally);
     if pair.horizon() <= 12 {
         check_sent(&pair, &list)?;
+        check_judged(subject, &pair, &list)?;
     }
     Ok(())
 }

@@ -1,7 +1,8 @@
 //! Conformance, the monitor and the generator, from the whole stream each time: every window is summed anew.
 
+use crate::pairs::{closure, Pair};
 use crate::rounds::opening;
-use crate::subject::{ALREADY_FAILED, NO_COUNT, PASSED, TOO_FEW, TOO_MANY};
+use crate::subject::{ALREADY_FAILED, LOST, NO_COUNT, PASSED, TOO_FEW, TOO_MANY};
 
 fn sum(counts: &[u32]) -> u64 {
     counts.iter().map(|&count| u64::from(count)).sum()
@@ -15,7 +16,7 @@ pub fn conforms(upper: &[u32], lower: &[u32], stream: &[u32]) -> bool {
     })
 }
 
-/// The verdict on the last tick of the stream.
+/// What one pair says of the last tick of the stream.
 pub fn verdict(upper: &[u32], lower: &[u32], stream: &[u32]) -> u32 {
     for window in 1..=upper.len().min(stream.len()) {
         let total = sum(&stream[stream.len() - window..]);
@@ -29,11 +30,19 @@ pub fn verdict(upper: &[u32], lower: &[u32], stream: &[u32]) -> u32 {
     PASSED
 }
 
+/// A monitor's verdict on the last tick of the stream. The closed figures have a say only where those as given pass it.
+pub fn ruling(given: &Pair, closed: &Pair, stream: &[u32]) -> u32 {
+    match verdict(&given.upper, &given.lower, stream) {
+        PASSED if verdict(&closed.upper, &closed.lower, stream) != PASSED => LOST,
+        found => found,
+    }
+}
+
 /// The verdicts on a list of counts. After the first that is not passed nothing is judged any more.
-pub fn verdicts(upper: &[u32], lower: &[u32], counts: &[u32]) -> Vec<u32> {
+fn verdicts(given: &Pair, closed: &Pair, counts: &[u32]) -> Vec<u32> {
     let mut list = Vec::new();
     for end in 1..=counts.len() {
-        let last = verdict(upper, lower, &counts[..end]);
+        let last = ruling(given, closed, &counts[..end]);
         list.push(last);
         if last != PASSED {
             break;
@@ -81,14 +90,21 @@ pub fn sent(upper: &[u32], lower: &[u32], choices: &[u32]) -> Vec<u32> {
     list
 }
 
-/// A script through a monitor, questions included.
+/// A script through a monitor, questions included: the last of them is whether there is a closure.
 pub fn judge_into(upper: &[u32], lower: &[u32], script: &mut [u32]) -> u32 {
     let number = opening(upper, lower, None);
-    if number == 0 {
-        let list = verdicts(upper, lower, script);
-        script.copy_from_slice(&list);
+    if number != 0 {
+        return number;
     }
-    number
+    let given = Pair::new(upper, lower);
+    match closure(&given) {
+        None => 5,
+        Some(closed) => {
+            let list = verdicts(&given, &closed, script);
+            script.copy_from_slice(&list);
+            0
+        }
+    }
 }
 
 /// A script through a generator, questions included.

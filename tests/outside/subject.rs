@@ -18,6 +18,7 @@ pub const PASSED: u32 = 0;
 pub const TOO_MANY: u32 = 1_000;
 pub const TOO_FEW: u32 = 2_000;
 pub const ALREADY_FAILED: u32 = 3_000;
+pub const LOST: u32 = 4_000;
 pub const REFUSED: u32 = 4_000_000_000;
 /// What stands for a count where there is none that could be sent.
 pub const NO_COUNT: u32 = REFUSED + 13;

@@ -21,19 +21,32 @@ pub const PROGRAM: &str = "program refused with (0: curves)";
 pub const MONITOR: &str = "opening a monitor refused with (0: opened)";
 pub const GENERATOR: &str = "opening a generator refused with (0: opened)";
 pub const OPENING: &str = "opening with two faults, both numbers";
-pub const VERDICT: &str = "verdicts (0 passed, 1 many, 2 few, 3 failed)";
+pub const VERDICT: &str = "verdicts (0 passed, 1 many, 2 few, 3 failed, 4 lost)";
 pub const MANY: &str = "too many, window";
 pub const FEW: &str = "too few, window";
 pub const FAILED: &str = "rejected (0: in 10 ticks, 1: 100, 2: 300, 3: later)";
 pub const BOTH: &str = "too many and too few at once, 1 in one window";
+pub const REJECTED: &str = "many or few, and outside the closed (1: shorter) too";
+pub const LOST_EARLY: &str = "lost in the first 10 ticks, horizon up to";
+pub const LOST_LATER: &str = "lost in 10 to 300 ticks, horizon up to";
+pub const LOST_LATE: &str = "lost after 300 ticks, horizon up to";
+pub const LOST_WINDOW: &str = "lost, the shortest window outside the closed figures";
+pub const LOST_BY: &str = "lost, and by its closed figures (1 many, 2 few)";
+pub const BUILT: &str = "states by hand (0 to 4 verdicts, 12 refused)";
+pub const BUILT_TWELVE: &str = "12 for closed figures (1: for those alone)";
+pub const BUILT_REJECTED: &str = "many or few by hand (1: outside the closed too)";
+pub const BUILT_LOOSER: &str = "looser closed figures by hand (0 passed, 4 lost)";
 pub const SENT: &str = "generator (0 sent, 13 no count)";
 pub const STOPPED: &str = "no count (0: in 10 ticks, 1: 100, 2: 300, 3: later)";
 pub const LO: &str = "generator, the window that settled lo (0: none)";
 pub const EXTENDABLE: &str = "a pair has extendable streams (0 none, 1 some)";
 pub const START: &str = "a start (0 not extendable, 1 extendable)";
+pub const JUDGED: &str = "a small pair's stream (0 passed, 1 many, 2 few, 4 lost)";
 pub const EQUAL: &str = "two closures (0 differ, 1 equal)";
 
 const SOME_WINDOWS: &[u32] = &[1, 2, 3, 4, 8, 12, 256];
+/// Where kinds of horizons end. With one window nothing is ever lost, as every pair is its own closure.
+pub const HORIZONS: &[u32] = &[2, 3, 4, 8, 12, 64, 255, 256];
 
 /// What must be seen in a whole run.
 const DUE: &[(&str, &[u32])] = &[
@@ -48,19 +61,30 @@ const DUE: &[(&str, &[u32])] = &[
     (REPORT, &[0, 5, 6, 7, 8, 9, 10]),
     (ROOM, &[0, 1, 2]),
     (PROGRAM, &[0, 5, 6, 7, 8, 9, 10]),
-    (MONITOR, &[0, 1, 2, 4]),
+    (MONITOR, &[0, 1, 2, 4, 5]),
     (GENERATOR, &[0, 1, 2, 4]),
-    (OPENING, &[12, 14, 24]),
-    (VERDICT, &[0, 1, 2, 3]),
+    (OPENING, &[12, 14, 15, 24, 25, 45]),
+    (VERDICT, &[0, 1, 2, 3, 4]),
     (MANY, SOME_WINDOWS),
     (FEW, SOME_WINDOWS),
     (FAILED, &[0, 1, 2, 3]),
+    (REJECTED, &[0, 1]),
+    (LOST_EARLY, HORIZONS),
+    (LOST_LATER, HORIZONS),
+    (LOST_LATE, HORIZONS),
+    (LOST_WINDOW, &[1, 2, 3, 4, 8, 11, 64, 255]),
+    (LOST_BY, &[1, 2]),
+    (BUILT, &[0, 1, 2, 3, 4, 12]),
+    (BUILT_TWELVE, &[0, 1]),
+    (BUILT_REJECTED, &[0, 1]),
+    (BUILT_LOOSER, &[0, 4]),
     (BOTH, &[0, 1]),
     (SENT, &[0, 13]),
     (STOPPED, &[0, 1, 2]),
     (LO, &[0, 1, 2, 3, 8, 256]),
     (EXTENDABLE, &[0, 1]),
     (START, &[0, 1]),
+    (JUDGED, &[0, 1, 2, 4]),
     (EQUAL, &[0, 1]),
 ];
 

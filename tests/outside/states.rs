@@ -1,0 +1,183 @@
+//! States built by hand, drawn as the program `limits` draws them, and what a tick on each must come to, by the reference. Anything may
+//! stand in a state: sizes and figures that are refused, and closed figures that have nothing to do with those as given.
+
+use crate::pairs::Pair;
+use crate::streams::{chosen, range, ruling};
+use crate::subject::{ALREADY_FAILED, LIMIT, LONGEST_HORIZON, PASSED, REFUSED};
+
+pub const CASES: u64 = 400;
+
+fn scramble(x: u64) -> u64 {
+    let a = x ^ (x << 13);
+    let b = a ^ (a >> 7);
+    b ^ (b << 17)
+}
+
+/// The k-th number of a case, below `end`.
+fn draw(case: u64, k: u64, end: u64) -> u64 {
+    scramble(scramble(scramble(case ^ (k << 20) ^ 88_172_645_463_325_252))) % end
+}
+
+/// One of `times` states has figures at the limit and above it among the others, the rest hardly any.
+fn draw_odd(case: u64, k: u64, times: u64) -> u64 {
+    if draw(case, k, times) == 0 {
+        24
+    } else {
+        1_000_000
+    }
+}
+
+fn draw_count(case: u64, k: u64, odd: u64, end: u64) -> u32 {
+    match draw(case, k, odd) {
+        0 => LIMIT,
+        1 => LIMIT + 1,
+        2 => u32::MAX,
+        _ => draw(case, k ^ 8_192, end) as u32,
+    }
+}
+
+fn draw_counts(case: u64, k: u64, odd: u64, end: u64) -> Vec<u32> {
+    (0..LONGEST_HORIZON as u64).map(|i| draw_count(case, k ^ i, odd, end)).collect()
+}
+
+fn draw_size(case: u64, k: u64, end: u64) -> u64 {
+    match draw(case, k, 24) {
+        0 => LONGEST_HORIZON as u64,
+        1 => LONGEST_HORIZON as u64 + 1,
+        2 => u64::MAX,
+        _ => draw(case, k ^ 1, end),
+    }
+}
+
+/// Each list has 256 entries, whatever the horizon is.
+pub struct State {
+    horizon: u64,
+    held: u64,
+    pub failed: bool,
+    given: Pair,
+    closed: Pair,
+    ticks: Vec<u32>,
+}
+
+/// A state and the count, or the choice, that it gets.
+pub fn drawn(case: u64) -> (State, u32) {
+    let (odd, closed_odd) = (draw_odd(case, 3, 4), draw_odd(case, 12, 8));
+    let state = State {
+        horizon: draw_size(case, 4, 11),
+        held: draw_size(case, 6, 1 + draw(case, 8, 10)),
+        failed: draw(case, 1, 4) == 0,
+        given: Pair {
+            upper: draw_counts(case, 1_024, odd, 1 + draw(case, 9, 90)),
+            lower: draw_counts(case, 2_048, odd, 1 + draw(case, 10, 9)),
+        },
+        closed: Pair {
+            upper: draw_counts(case, 4_096, closed_odd, 1 + draw(case, 13, 90)),
+            lower: draw_counts(case, 5_120, closed_odd, 1 + draw(case, 14, 9)),
+        },
+        ticks: draw_counts(case, 3_072, 24, 1 + draw(case, 11, 6)),
+    };
+    (state, draw_count(case, 2, 12, 4))
+}
+
+/// What a monitor's tick comes to.
+#[derive(PartialEq)]
+pub struct Judged {
+    /// As an entry of a script.
+    pub answer: u32,
+    pub failed: bool,
+    /// The ticks that are held then, or nothing where the state comes back as it was, but for the mark.
+    pub held: Option<Vec<u32>>,
+}
+
+pub fn digest(numbers: &[u32]) -> u64 {
+    numbers.iter().fold(1, |sum, &number| (sum * 31 + u64::from(number)) % (1 << 31))
+}
+
+fn digests(pair: &Pair) -> String {
+    format!("{} {}", digest(&pair.upper), digest(&pair.lower))
+}
+
+impl State {
+    /// What question 12 asks of the horizon and the held ticks. The figures and the stream are those of a state that has this.
+    pub fn has_sizes(&self) -> bool {
+        1 <= self.horizon && self.horizon <= LONGEST_HORIZON as u64 && self.held < self.horizon
+    }
+
+    pub fn given(&self) -> Pair {
+        self.up_to_horizon(&self.given)
+    }
+
+    pub fn closed(&self) -> Pair {
+        self.up_to_horizon(&self.closed)
+    }
+
+    fn up_to_horizon(&self, pair: &Pair) -> Pair {
+        let horizon = self.horizon as usize;
+        Pair::new(&pair.upper[..horizon], &pair.lower[..horizon])
+    }
+
+    pub fn stream(&self) -> &[u32] {
+        &self.ticks[..self.held as usize]
+    }
+
+    pub fn stream_with(&self, count: u32) -> Vec<u32> {
+        [self.stream(), &[count]].concat()
+    }
+
+    fn held_with(&self, count: u32) -> Vec<u32> {
+        let stream = self.stream_with(count);
+        let held = stream.len().min(self.horizon as usize - 1);
+        stream[stream.len() - held..].to_vec()
+    }
+
+    pub fn judged(&self, count: u32) -> Judged {
+        let answered = |answer: u32, failed: bool| Judged {
+            answer,
+            failed,
+            held: (answer == PASSED).then(|| self.held_with(count)),
+        };
+        if !self.has_sizes() || self.given().over_limit() || self.closed().over_limit() {
+            return answered(REFUSED + 12, self.failed);
+        }
+        if self.failed {
+            return answered(ALREADY_FAILED, true);
+        }
+        let answer = ruling(&self.given(), &self.closed(), &self.stream_with(count));
+        answered(answer, answer != PASSED)
+    }
+
+    /// The history that comes back: what a view has of it where a tick was added, else every entry.
+    fn history_line(&self, held: Option<Vec<u32>>) -> String {
+        let (pair, length, ticks) = match held {
+            Some(held) => (self.given(), held.len() as u64, held),
+            None => (self.given.clone(), self.held, self.ticks.clone()),
+        };
+        format!("{} {length} {} {}", self.horizon, digests(&pair), digest(&ticks))
+    }
+
+    /// The kind of the verdict and its window, the mark, the history, and the closed figures.
+    pub fn judged_line(&self, count: u32) -> String {
+        let Judged { answer, failed, held } = self.judged(count);
+        let (kind, window) = match answer {
+            REFUSED.. => (answer - REFUSED, 0),
+            _ => (answer / 1_000, answer % 1_000),
+        };
+        let closed = if held.is_some() { self.closed() } else { self.closed.clone() };
+        let history = self.history_line(held);
+        format!("{kind} {window} {} {history} {}", u8::from(failed), digests(&closed))
+    }
+
+    /// A generator on the same history: lo and hi, what is sent, and the history. It has no closed figures.
+    pub fn sent_line(&self, choice: u32) -> String {
+        if !self.has_sizes() || self.given().over_limit() {
+            return format!("12 0 12 0 {}", self.history_line(None));
+        }
+        match range(&self.given().upper, &self.given().lower, self.stream()) {
+            None => format!("13 0 13 0 {}", self.history_line(None)),
+            Some((lo, hi)) => {
+                let count = chosen(lo, hi, choice);
+                format!("{lo} {hi} 0 {count} {}", self.history_line(Some(self.held_with(count))))
+            }
+        }
+    }
+}
