@@ -65,11 +65,15 @@ size_t calgedze_report(const uint8_t *text, size_t text_length, uint8_t *output,
  * before it left. What the tick gets is the entry, and what it answers takes the entry's place.
  */
 
-/* What a monitor answers to a count. The two that name a window are this plus the window. */
+/*
+ * What a monitor answers to a count. The two that name a window are this plus the window. A count is lost where every window keeps its
+ * figures, and no unbounded stream that conforms begins like this; on the curves of a closure that never happens.
+ */
 #define CALGEDZE_PASSED 0u
 #define CALGEDZE_TOO_MANY 1000u
 #define CALGEDZE_TOO_FEW 2000u
 #define CALGEDZE_ALREADY_FAILED 3000u
+#define CALGEDZE_LOST 4000u
 
 /*
  * The answer of a tick that is refused is this plus the refusal's number: 13 for a choice where no count keeps every window that ends at
@@ -79,8 +83,8 @@ size_t calgedze_report(const uint8_t *text, size_t text_length, uint8_t *output,
 #define CALGEDZE_REFUSED 4000000000u
 
 /*
- * Opens a monitor on the pair of `upper` and `lower` and gives it the counts of `script`. Gives back 0; or 1, 2 or 4, as calgedze_close
- * has them, and then there is no tick and the script stays as it is.
+ * Opens a monitor on the pair of `upper` and `lower` and gives it the counts of `script`. Gives back 0; or 1, 2, 4 or 5, as
+ * calgedze_close has them, and then there is no tick and the script stays as it is.
  */
 uint32_t calgedze_judge(const uint32_t *upper, size_t upper_length, const uint32_t *lower, size_t lower_length, uint32_t *script,
                         size_t script_length);

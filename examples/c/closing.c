@@ -1,5 +1,6 @@
 /*
- * Closes a pair of arrival curves, shows how a refusal is told, generates a stream on a closure and judges it.
+ * Closes a pair of arrival curves, shows how a refusal is told, generates a stream on a closure and judges it; then a start that keeps
+ * its curves as they are written, and is lost.
  *
  *     gcc -std=c99 -Iinclude examples/c/closing.c target/staticlib/libexports.a -o target/closing
  */
@@ -39,6 +40,8 @@ static void print_verdict(uint32_t verdict)
         printf(" passed");
     else if (verdict == CALGEDZE_ALREADY_FAILED)
         printf(" already-failed");
+    else if (verdict == CALGEDZE_LOST)
+        printf(" lost");
     else if (verdict > CALGEDZE_TOO_FEW)
         printf(" too-few-in-%lu", (unsigned long)(verdict - CALGEDZE_TOO_FEW));
     else
@@ -71,6 +74,7 @@ int main(void)
     const uint32_t upper[4] = {2, 3, 5, 5}, lower[4] = {0, 0, 0, 3};
     uint32_t script[10] = {5, 7, 0, 2, 1, 4000000000u, 3, 0, 8, 6};
     uint32_t bad[6] = {2, 0, 0, 1, 1, 1};
+    uint32_t lost[6] = {0, 2, 1, 0, 2, 0};
     uint32_t closed_upper[5], closed_lower[5];
 
     close_and_print(one_upper, one_lower, closed_upper, closed_lower, 5);
@@ -83,5 +87,7 @@ int main(void)
     calgedze_generate(closed_upper, 4, closed_lower, 4, script, 10);
     judge_and_print(closed_upper, closed_lower, 4, script, 10);
     judge_and_print(closed_upper, closed_lower, 4, bad, 6);
+    /* On the first pair, as it is written: each window of these six ticks keeps its figures, but a stream that begins with 0 stops. */
+    judge_and_print(one_upper, one_lower, 5, lost, 6);
     return 0;
 }

@@ -1,4 +1,5 @@
-//! Reads a constraint text, closes its curves, generates twenty ticks of traffic on them and judges it; then a stream that goes wrong.
+//! Reads a constraint text, closes its curves, generates twenty ticks of traffic on them and judges it; then a stream that goes wrong,
+//! and a start that keeps the curves as they are written and is lost.
 //!
 //!     rustc --edition 2021 examples/rust/traffic.rs -L native=target/staticlib -l static=exports -o target/traffic
 
@@ -53,6 +54,7 @@ enum Verdict {
     Passed,
     TooMany(u32),
     TooFew(u32),
+    Lost,
     AlreadyFailed,
 }
 
@@ -137,6 +139,7 @@ fn verdict(entry: u32) -> Verdict {
         0 => Verdict::Passed,
         1_001..=1_256 => Verdict::TooMany(entry - 1_000),
         2_001..=2_256 => Verdict::TooFew(entry - 2_000),
+        4_000 => Verdict::Lost,
         _ => Verdict::AlreadyFailed,
     }
 }
@@ -153,6 +156,7 @@ fn print_verdicts(counts: &[u32], verdicts: &[Verdict]) {
             Verdict::Passed => {}
             Verdict::TooMany(window) => println!("tick {tick}, count {count}: too many in the window of {window} ending there"),
             Verdict::TooFew(window) => println!("tick {tick}, count {count}: too few in the window of {window} ending there"),
+            Verdict::Lost => println!("tick {tick}, count {count}: lost, no stream that goes on begins like this"),
             Verdict::AlreadyFailed => println!("tick {tick}, count {count}: already failed"),
         }
     }
@@ -175,6 +179,10 @@ fn run() -> Result<(), Refusal> {
     let mut wrong = sent;
     wrong[16] -= 2;
     print_verdicts(&wrong, &closed.judge(&wrong)?);
+
+    // On the curves as written: 3 in four ticks keep every figure so far, but the next four have 6 at most, and eight need 10.
+    let start = [2, 0, 1, 0, 2, 1];
+    print_verdicts(&start, &given.judge(&start)?);
     Ok(())
 }
 

@@ -30,7 +30,8 @@ impl Faulty {
         match self.fault {
             LostByFirstWindow => 1..=1,
             LostByLastWindow => last..=last,
-            LostOnceFilled if last < history.horizon() => 1..=0,
+            LostAtFirstTickOnly if last > 1 => 1..=0,
+            LostWhileFillingOnly if last == history.horizon() => 1..=0,
             _ => 1..=last,
         }
     }

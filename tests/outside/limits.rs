@@ -96,14 +96,13 @@ fn note(state: &State, count: u32, tally: &mut Tally) {
     let answer = state.judged(count).answer;
     tally.note(BUILT, if answer < REFUSED { answer / 1_000 } else { answer - REFUSED });
     if !state.has_sizes() {
+        tally.note(BUILT_TWELVE, 0);
         return;
     }
     let (given, closed, stream) = (state.given(), state.closed(), state.stream_with(count));
-    if closed.over_limit() {
-        tally.note(BUILT_TWELVE, u32::from(!given.over_limit()));
-    }
     match answer {
-        ALREADY_FAILED | REFUSED.. => {}
+        REFUSED.. => tally.note(BUILT_TWELVE, if given.over_limit() { 1 } else { 2 }),
+        ALREADY_FAILED => {}
         PASSED | LOST if looser_somewhere(&closed, &given) => tally.note(BUILT_LOOSER, answer / 1_000),
         PASSED | LOST => {}
         _ => {

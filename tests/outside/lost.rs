@@ -1,6 +1,13 @@
 //! The verdict 'lost' in the words of its request, on small pairs and against all streams that there are. A monitor opened on the pair
 //! itself says it for the first tick after which the stream conforms to the pair and begins no unbounded stream that does; what is asked
 //! is the search over continuations, and no closed figure.
+//!
+//! Nothing is lost once there are H ticks. Take a tick up to which the stream keeps the closure and with which it keeps the pair, and the
+//! shortest window, of d ticks, that breaks its closed ceiling there. That is lower than the one given, so it is the cost of a walk of
+//! two steps or more (`paths`), of which one goes up by an a other than d; and steps may be taken in any order. Where a is below d, the
+//! closed ceiling of d is U a and the closed one of d - a: the first a ticks of the window keep the one, and the rest keeps the other, as it
+//! is shorter. Where a is above d, it is U a less the closed least of a - d: the window of a ticks keeps U a, and its ticks before the
+//! last d keep that least, if the stream has them all, and with H ticks it does. So no closed ceiling is broken; and no least, likewise.
 
 use crate::extensions::Extensions;
 use crate::pairs::Pair;
@@ -44,6 +51,16 @@ fn check_stream(subject: &dyn Subject, pair: &Pair, extensions: &Extensions, cou
             pair.upper,
             pair.lower,
             (number, judged)
+        ));
+    }
+    if judged
+        .iter()
+        .skip(pair.horizon() - 1)
+        .any(|&verdict| number == 0 && verdict == LOST)
+    {
+        return Err(format!(
+            "lost with the horizon filled\n  {:?}\n  {:?}\n  {counts:?}",
+            pair.upper, pair.lower
         ));
     }
     if number == 0 {

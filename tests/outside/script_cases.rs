@@ -111,18 +111,19 @@ enum Lean {
 /// A stream that keeps the closure until it strays.
 struct Course {
     length: usize,
-    /// The first tick at which it may stray, if some count there does.
+    /// The first tick at which it may stray, if some count there does. None is lost after tick H - 2 (`lost` says why).
     start: usize,
     burst_ticks: usize,
     burst: Lean,
     after: Lean,
 }
 
-fn course(rng: &mut Rng) -> Course {
-    let length = rng.length(1, LONGEST_SCRIPT);
+fn course(rng: &mut Rng, horizon: usize) -> Course {
+    let last = horizon - 2;
+    let between = rng.length(0, last);
     Course {
-        length,
-        start: if rng.one_in(3) { rng.length(0, 12) } else { rng.length(0, length) },
+        length: horizon + rng.length(0, 40),
+        start: rng.pick(&[0, last, between, between]),
         burst_ticks: rng.length(0, 4),
         burst: rng.pick(&[Lean::Low, Lean::High]),
         after: rng.pick(&[Lean::Low, Lean::High, Lean::Anywhere, Lean::Anywhere]),
@@ -185,11 +186,9 @@ fn lost_somewhere(rng: &mut Rng) -> (Pair, Vec<u32>) {
         4..=13 => rng.length(13, 64),
         _ => rng.length(2, 12),
     };
-    let mut course = course(rng);
-    let pair = if rng.one_in(8) {
+    let mut course = course(rng, horizon);
+    let pair = if rng.one_in(6) {
         (course.burst_ticks, course.burst, course.after) = (1, Lean::High, Lean::Low);
-        course.start = if rng.one_in(2) { horizon - 2 } else { rng.length(0, horizon) };
-        course.length = course.length.max(horizon);
         pairs::burst(rng, horizon)
     } else {
         pairs::unclosed(rng, horizon)

@@ -8,7 +8,7 @@ use crate::script_cases::{for_generator, for_monitor, spoil};
 use crate::streams::{conforms, verdict};
 use crate::subject::{Subject, ALREADY_FAILED, LONGEST_HORIZON, LOST, NO_COUNT, PASSED, TOO_FEW, TOO_MANY};
 use crate::tally::{Tally, FAILED, FEW, GENERATOR, LO, MANY, MONITOR, OPENING, REJECTED, SENT, STOPPED, VERDICT};
-use crate::tally::{HORIZONS, LOST_BY, LOST_EARLY, LOST_LATE, LOST_LATER, LOST_WINDOW};
+use crate::tally::{HORIZONS, LOST_BETWEEN, LOST_BY, LOST_FIRST, LOST_LAST, LOST_WINDOW};
 
 /// Entries on either side of a script, which no call may touch.
 const MARGIN: usize = 4;
@@ -63,16 +63,20 @@ fn note_rejected(pair: &Pair, closed: &Pair, stream: &[u32], found: u32, tally: 
         tally.note(REJECTED, u32::from(by_closed != found));
         return;
     }
-    let horizon = HORIZONS.iter().find(|&&end| pair.horizon() <= end as usize).copied();
-    let kind = [LOST_EARLY, LOST_LATER, LOST_LATER, LOST_LATE][age(stream.len() - 1) as usize];
-    tally.note(kind, horizon.unwrap_or(0));
+    let horizon = HORIZONS.iter().find(|&&end| pair.horizon() <= end as usize);
+    let kind = match stream.len() {
+        1 => LOST_FIRST,
+        ticks if ticks + 1 == pair.horizon() => LOST_LAST,
+        _ => LOST_BETWEEN,
+    };
+    tally.note(kind, horizon.map_or(0, |&end| end));
     tally.note(LOST_WINDOW, by_closed % 1_000);
     tally.note(LOST_BY, by_closed / 1_000);
 }
 
 /// The passed ticks are the longest start that conforms to the closure, which is found by shortest paths here; the tick after them is
-/// lost exactly where with it the stream conforms to the pair as given: by the sum of every window. A difference here is inside the
-/// reference.
+/// lost exactly where with it the stream conforms to the pair as given, which only happens while the horizon is not filled: by the sum of
+/// every window. A difference here is inside the reference.
 fn check_start(pair: &Pair, counts: &[u32], verdicts: &[u32]) -> Result<(), String> {
     let passed = verdicts.iter().take_while(|&&verdict| verdict == PASSED).count();
     let rest_failed = verdicts.iter().skip(passed + 1).all(|&verdict| verdict == ALREADY_FAILED);
@@ -81,7 +85,8 @@ fn check_start(pair: &Pair, counts: &[u32], verdicts: &[u32]) -> Result<(), Stri
         let next = counts.get(..passed + 1);
         let next_does = next.is_some_and(|start| conforms(&upper, &lower, start));
         let next_is_lost = next.is_some_and(|start| conforms(&pair.upper, &pair.lower, start));
-        start_conforms && !next_does && next_is_lost == (verdicts.get(passed) == Some(&LOST))
+        let filled = passed + 1 >= pair.horizon();
+        start_conforms && !next_does && !(next_is_lost && filled) && next_is_lost == (verdicts.get(passed) == Some(&LOST))
     });
     if agrees && rest_failed {
         return Ok(());
@@ -155,7 +160,10 @@ pub fn compare_monitor(subject: &dyn Subject, rng: &mut Rng, tally: &mut Tally) 
     if pair.horizon() <= 12 {
         check_start(&pair, &script, &verdicts)?;
     }
-    check_on_closure(subject, &closed, &script, &verdicts)
+    if pair.horizon() <= 64 || rng.one_in(4) {
+        check_on_closure(subject, &closed, &script, &verdicts)?;
+    }
+    Ok(())
 }
 
 /// What is sent keeps the pair, by the sum of every window; and where no count is sent, no small one would keep it.

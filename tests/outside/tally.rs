@@ -27,13 +27,13 @@ pub const FEW: &str = "too few, window";
 pub const FAILED: &str = "rejected (0: in 10 ticks, 1: 100, 2: 300, 3: later)";
 pub const BOTH: &str = "too many and too few at once, 1 in one window";
 pub const REJECTED: &str = "many or few, and outside the closed (1: shorter) too";
-pub const LOST_EARLY: &str = "lost in the first 10 ticks, horizon up to";
-pub const LOST_LATER: &str = "lost in 10 to 300 ticks, horizon up to";
-pub const LOST_LATE: &str = "lost after 300 ticks, horizon up to";
+pub const LOST_FIRST: &str = "lost at the first tick, horizon up to";
+pub const LOST_BETWEEN: &str = "lost between first and last, horizon up to";
+pub const LOST_LAST: &str = "lost at tick H - 2, none is later, horizon up to";
 pub const LOST_WINDOW: &str = "lost, the shortest window outside the closed figures";
 pub const LOST_BY: &str = "lost, and by its closed figures (1 many, 2 few)";
 pub const BUILT: &str = "states by hand (0 to 4 verdicts, 12 refused)";
-pub const BUILT_TWELVE: &str = "12 for closed figures (1: for those alone)";
+pub const BUILT_TWELVE: &str = "12 for (0 sizes, 1 given figures, 2 closed ones alone)";
 pub const BUILT_REJECTED: &str = "many or few by hand (1: outside the closed too)";
 pub const BUILT_LOOSER: &str = "looser closed figures by hand (0 passed, 4 lost)";
 pub const SENT: &str = "generator (0 sent, 13 no count)";
@@ -45,7 +45,7 @@ pub const JUDGED: &str = "a small pair's stream (0 passed, 1 many, 2 few, 4 lost
 pub const EQUAL: &str = "two closures (0 differ, 1 equal)";
 
 const SOME_WINDOWS: &[u32] = &[1, 2, 3, 4, 8, 12, 256];
-/// Where kinds of horizons end. With one window nothing is ever lost, as every pair is its own closure.
+/// Horizons by kind, each up to one of these. With one window nothing is ever lost, as every pair with a closure is its own.
 pub const HORIZONS: &[u32] = &[2, 3, 4, 8, 12, 64, 255, 256];
 
 /// What must be seen in a whole run.
@@ -69,13 +69,13 @@ const DUE: &[(&str, &[u32])] = &[
     (FEW, SOME_WINDOWS),
     (FAILED, &[0, 1, 2, 3]),
     (REJECTED, &[0, 1]),
-    (LOST_EARLY, HORIZONS),
-    (LOST_LATER, HORIZONS),
-    (LOST_LATE, HORIZONS),
-    (LOST_WINDOW, &[1, 2, 3, 4, 8, 11, 64, 255]),
+    (LOST_FIRST, HORIZONS),
+    (LOST_BETWEEN, &[4, 8, 12, 64, 255, 256]),
+    (LOST_LAST, &[3, 4, 8, 12, 64, 255, 256]),
+    (LOST_WINDOW, &[1, 2, 3, 4, 8, 11, 255]),
     (LOST_BY, &[1, 2]),
     (BUILT, &[0, 1, 2, 3, 4, 12]),
-    (BUILT_TWELVE, &[0, 1]),
+    (BUILT_TWELVE, &[0, 1, 2]),
     (BUILT_REJECTED, &[0, 1]),
     (BUILT_LOOSER, &[0, 4]),
     (BOTH, &[0, 1]),

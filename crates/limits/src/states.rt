@@ -27,18 +27,31 @@ pub(crate) fn try_all() {
 
 fn try_state(case: u64) {
     let history = build(case);
-    let failed = numbers::draw(case, 1, 4) == 0;
+    let monitor = build_monitor(case, history);
     let count = draw_count(case, 2, 12, 4);
     io::write_all(STDOUT_FILENO, b"state");
     numbers::show(case);
-    try_monitor(Monitor { history, failed }, count);
+    try_monitor(monitor, count);
     try_generator(Generator { history }, count);
     io::write_all(STDOUT_FILENO, b"\n");
 }
 
-// Every fourth state has figures at the limit and above it among the others, the rest hardly any.
+// The closed figures have nothing to do with those as given: they are tighter in some windows and looser in others.
+fn build_monitor(case: u64, history: History) -> Monitor {
+    let odd = draw_odd(case, 12, 8);
+    let closed_upper = draw_counts(case, 4_096, odd, 1 + numbers::draw(case, 13, 90));
+    let closed_lower = draw_counts(case, 5_120, odd, 1 + numbers::draw(case, 14, 9));
+    let failed = numbers::draw(case, 1, 4) == 0;
+    Monitor {
+        history,
+        closed_upper,
+        closed_lower,
+        failed,
+    }
+}
+
 fn build(case: u64) -> History {
-    let odd = one_in(case);
+    let odd = draw_odd(case, 3, 4);
     let horizon = draw_size(case, 4, 11);
     let held = draw_size(case, 6, 1 + numbers::draw(case, 8, 10));
     let upper = draw_counts(case, 1_024, odd, 1 + numbers::draw(case, 9, 90));
@@ -53,10 +66,12 @@ fn build(case: u64) -> History {
     }
 }
 
-fn one_in(case: u64) -> u64
+// One of `times` states has figures at the limit and above it among the others, the rest hardly any.
+fn draw_odd(case: u64, k: u64, times: u64) -> u64
+    requires { ⌜ 1 ≤ times ⌝ }
     ensures { λ r. ⌜ 1 ≤ r ⌝ }
 {
-    if numbers::draw(case, 3, 4) == 0 {
+    if numbers::draw(case, k, times) == 0 {
         24
     } else {
         1_000_000
@@ -115,9 +130,15 @@ fn try_monitor(monitor: Monitor, count: u32) {
     let judgement = monitor.tick(count);
     let verdict = judgement.verdict;
     let next = judgement.next;
+    let added = is_passed(verdict);
+    let history = next.history;
+    let closed_upper = next.closed_upper;
+    let closed_lower = next.closed_lower;
     show_verdict(verdict);
     numbers::show(next.failed as u64);
-    show_history(next.history, is_passed(verdict));
+    show_history(history, added);
+    show_entries(closed_upper, history.horizon, added);
+    show_entries(closed_lower, history.horizon, added);
 }
 
 // Its kind, and the window that it names.
@@ -127,6 +148,7 @@ fn show_verdict(verdict: Verdict) {
         Verdict::TooMany { window } => numbers::show_two(1, window as u64),
         Verdict::TooFew { window } => numbers::show_two(2, window as u64),
         Verdict::AlreadyFailed => numbers::show_two(3, 0),
+        Verdict::Lost => numbers::show_two(4, 0),
         Verdict::BadState => numbers::show_two(12, 0),
     }
 }
@@ -136,6 +158,7 @@ fn is_passed(verdict: Verdict) -> bool {
         Verdict::Passed => true,
         Verdict::TooMany { window: _ } => false,
         Verdict::TooFew { window: _ } => false,
+        Verdict::Lost => false,
         Verdict::AlreadyFailed => false,
         Verdict::BadState => false,
     }
