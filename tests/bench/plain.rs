@@ -106,11 +106,15 @@ impl History {
             && within_limit(&self.lower[..self.horizon])
     }
 
-    fn hold(mut self, count: u32) -> History {
+    fn push(&mut self, count: u32) {
         let kept = self.held_ticks.min(self.horizon.saturating_sub(2));
         self.held.copy_within(..kept, 1);
         self.held[0] = count;
         self.held_ticks = (self.held_ticks + 1).min(self.horizon - 1);
+    }
+
+    fn hold(mut self, count: u32) -> History {
+        self.push(count);
         self
     }
 
@@ -193,6 +197,11 @@ impl Monitor {
         }
     }
 
+    fn hold(mut self, count: u32) -> Monitor {
+        self.history.push(count);
+        self
+    }
+
     fn tick(self, count: u32) -> (Monitor, u32) {
         if !self.well_formed() {
             return (self, 12);
@@ -200,12 +209,11 @@ impl Monitor {
         if self.failed {
             return (self, ALREADY_FAILED);
         }
-        match self.verdict(count) {
-            PASSED => {
-                let history = self.history.hold(count);
-                (Monitor { history, ..self }, PASSED)
-            }
-            verdict => (Monitor { failed: true, ..self }, verdict),
+        let verdict = self.verdict(count);
+        if verdict == PASSED {
+            (self.hold(count), PASSED)
+        } else {
+            (Monitor { failed: true, ..self }, verdict)
         }
     }
 }

@@ -4,7 +4,7 @@ use crate::random::Rng;
 use crate::subject::Subject;
 use crate::tally::Tally;
 use crate::workers::Work;
-use crate::{closings, known, promises, reading, scripts};
+use crate::{closings, known, lost, promises, reading, scripts};
 
 pub struct Comparison {
     pub name: &'static str,
@@ -48,6 +48,12 @@ pub const COMPARISONS: &[Comparison] = &[
         cases: 20_000,
         sample: 300,
         one: promises::compare,
+    },
+    Comparison {
+        name: "lost, by search",
+        cases: 10_000,
+        sample: 100,
+        one: lost::compare,
     },
     Comparison {
         name: "closings, long",

@@ -93,10 +93,14 @@ impl Extensions {
         stream[stream.len().saturating_sub(self.horizon - 1)..].to_vec()
     }
 
+    /// Whether an extendable stream still is with one more count.
+    pub fn goes_on(&self, stream: &[u32], count: u32) -> bool {
+        self.counts_after(&self.past_of(stream)).contains(&count)
+    }
+
     /// Whether the stream begins an unbounded one that conforms.
     pub fn is_extendable(&self, stream: &[u32]) -> bool {
-        let kept = |end: usize| self.counts_after(&self.past_of(&stream[..end])).contains(&stream[end]);
-        self.any_stream() && (0..stream.len()).all(kept)
+        self.any_stream() && (0..stream.len()).all(|end| self.goes_on(&stream[..end], stream[end]))
     }
 
     /// Every past that some unbounded stream has at some time.

@@ -30,6 +30,7 @@ impl Faulty {
         match self.fault {
             LostByFirstWindow => 1..=1,
             LostByLastWindow => last..=last,
+            LostEmptyTicksBefore => 1..=history.horizon(),
             LostAtFirstTickOnly if last > 1 => 1..=0,
             LostWhileFillingOnly if last == history.horizon() => 1..=0,
             _ => 1..=last,
@@ -117,12 +118,20 @@ impl Faulty {
         }
         let verdict = self.ruling(monitor, count);
         let lost = verdict >= LOST;
-        let held = self.has(RejectedHeld) || self.has(RecoversAndHolds) || (lost && (self.has(LostHeld) || self.has(LostGoesOn)));
+        let held = match self.fault {
+            RejectedHeld | RecoversAndHolds => true,
+            LostHeld | LostGoesOn => lost,
+            _ => false,
+        };
+        let goes_on = match self.fault {
+            Recovers | RecoversAndHolds => true,
+            LostNotMarked | LostGoesOn => lost,
+            _ => false,
+        };
         if verdict == PASSED || held {
             self.hold(&mut monitor.history, count);
         }
-        let recovers = self.has(Recovers) || self.has(RecoversAndHolds) || (lost && (self.has(LostNotMarked) || self.has(LostGoesOn)));
-        if !recovers {
+        if !goes_on {
             monitor.failed = verdict;
         }
         verdict
@@ -175,20 +184,16 @@ impl Faulty {
 
     /// A tick on a state built by hand.
     pub fn judge_state(&self, state: &State, count: u32) -> Judged {
-        let first = self.has(FailedBeforeTwelve) && state.failed;
-        if !first && self.is_bad(state) {
-            return Judged {
-                answer: REFUSED + 12,
-                failed: state.failed,
-                held: None,
-            };
+        let stays = |answer: u32| Judged {
+            answer,
+            failed: state.failed,
+            held: None,
+        };
+        if self.is_bad(state) && !(self.has(FailedBeforeTwelve) && state.failed) {
+            return stays(REFUSED + 12);
         }
         if state.failed {
-            return Judged {
-                answer: ALREADY_FAILED,
-                failed: true,
-                held: None,
-            };
+            return stays(ALREADY_FAILED);
         }
         let (given, closed) = (state.given(), state.closed());
         let mut monitor = Monitor {

@@ -134,7 +134,8 @@ fn course(rng: &mut Rng, horizon: usize) -> Course {
 /// neither. Nothing where there is none.
 fn stray(rng: &mut Rng, given: (u32, u32), closed: (u32, u32)) -> Option<u32> {
     if rng.one_in(6) {
-        return Some(if rng.one_in(2) { given.1 + 1 } else { given.0.saturating_sub(1) });
+        let below = given.0 > 0 && rng.one_in(2);
+        return Some(if below { given.0 - 1 } else { given.1 + 1 });
     }
     let mut counts = Vec::new();
     if given.0 < closed.0 {
@@ -154,40 +155,37 @@ fn stray(rng: &mut Rng, given: (u32, u32), closed: (u32, u32)) -> Option<u32> {
 fn straying(rng: &mut Rng, pair: &Pair, course: &Course) -> Vec<u32> {
     let closed = pairs::closed(pair);
     let mut counts = Vec::new();
-    while let Some((lo, hi)) = range(&closed.upper, &closed.lower, &counts).filter(|_| counts.len() < course.length) {
-        let outer = if counts.len() < course.start {
-            None
-        } else {
-            range(&pair.upper, &pair.lower, &counts)
-        };
-        if let Some(count) = outer.and_then(|outer| stray(rng, outer, (lo, hi))) {
-            counts.push(count);
-            break;
-        }
+    while let Some((lo, hi)) = range(&closed.upper, &closed.lower, &counts) {
+        let may_stray = counts.len() >= course.start;
+        let given = range(&pair.upper, &pair.lower, &counts).filter(|_| may_stray);
+        let strayed = given.and_then(|given| stray(rng, given, (lo, hi)));
         let lean = if counts.len() < course.burst_ticks {
             course.burst
         } else {
             course.after
         };
-        counts.push(match lean {
+        counts.push(strayed.unwrap_or_else(|| match lean {
             Lean::Low => lo,
             Lean::High => hi,
             Lean::Anywhere => chosen(lo, hi, rng.any()),
-        });
+        }));
+        if strayed.is_some() || counts.len() == course.length {
+            break;
+        }
     }
-    counts.resize_with(course.length.max(counts.len()), || rng.below(5));
+    counts.resize_with(course.length, || rng.below(5));
     counts
 }
 
 /// An unclosed pair, and a stream that is lost somewhere if it can be.
 fn lost_somewhere(rng: &mut Rng) -> (Pair, Vec<u32>) {
     let horizon = match rng.below(100) {
-        0..=3 => pairs::long_horizon(rng),
-        4..=13 => rng.length(13, 64),
+        0..=4 => pairs::long_horizon(rng),
+        5..=16 => rng.length(13, 64),
         _ => rng.length(2, 12),
     };
     let mut course = course(rng, horizon);
-    let pair = if rng.one_in(6) {
+    let pair = if rng.one_in(if horizon > 12 { 3 } else { 6 }) {
         (course.burst_ticks, course.burst, course.after) = (1, Lean::High, Lean::Low);
         pairs::burst(rng, horizon)
     } else {

@@ -75,20 +75,17 @@ fn note_rejected(pair: &Pair, closed: &Pair, stream: &[u32], found: u32, tally: 
 }
 
 /// The passed ticks are the longest start that conforms to the closure, which is found by shortest paths here; the tick after them is
-/// lost exactly where with it the stream conforms to the pair as given, which only happens while the horizon is not filled: by the sum of
-/// every window. A difference here is inside the reference.
+/// lost exactly where the stream with it conforms to the pair as given, and then the horizon is not filled yet: by the sum of every
+/// window. A difference here is inside the reference.
 fn check_start(pair: &Pair, counts: &[u32], verdicts: &[u32]) -> Result<(), String> {
     let passed = verdicts.iter().take_while(|&&verdict| verdict == PASSED).count();
     let rest_failed = verdicts.iter().skip(passed + 1).all(|&verdict| verdict == ALREADY_FAILED);
-    let agrees = paths::close(&pair.upper, &pair.lower).is_some_and(|(upper, lower)| {
-        let start_conforms = conforms(&upper, &lower, &counts[..passed]);
-        let next = counts.get(..passed + 1);
-        let next_does = next.is_some_and(|start| conforms(&upper, &lower, start));
-        let next_is_lost = next.is_some_and(|start| conforms(&pair.upper, &pair.lower, start));
-        let filled = passed + 1 >= pair.horizon();
-        start_conforms && !next_does && !(next_is_lost && filled) && next_is_lost == (verdicts.get(passed) == Some(&LOST))
-    });
-    if agrees && rest_failed {
+    let lost = verdicts.get(passed) == Some(&LOST);
+    let keeps = |upper: &[u32], lower: &[u32], ticks: usize| ticks <= counts.len() && conforms(upper, lower, &counts[..ticks]);
+    let longest = paths::close(&pair.upper, &pair.lower)
+        .is_some_and(|(upper, lower)| keeps(&upper, &lower, passed) && !keeps(&upper, &lower, passed + 1));
+    let next_keeps = keeps(&pair.upper, &pair.lower, passed + 1);
+    if longest && next_keeps == lost && (!lost || passed + 1 < pair.horizon()) && rest_failed {
         return Ok(());
     }
     Err(format!(
