@@ -1,7 +1,7 @@
 -- Laws over plain variables for the run of the rounds: crossings, rounds that change nothing, and where they stop.
 -- Assumes nothing.
 use Rattle.laws.proofs.Base.{ℕ, zero, suc, _≤_, _<_, _≡_, refl, sym, ap, subst, subst⁻¹, Bool, true, false, _&&_, List}
-use Rattle.laws.proofs.Base.{arith, length, getD, take, length-take-le}
+use Rattle.laws.proofs.Base.{arith, length, getD, take, replicate, length-take-le, length-replicate}
 use mathlib.Core.Path.{subst₂}
 use Rattle.laws.specs.Tests.{Tells}
 use Rattle.curves.specs.Pairs.{Pair, figure, pairOf}
@@ -55,5 +55,5 @@ pub ready : (us xs : List ℕ) → xs ≡ us → (length us ≤ maxHorizon) × B
 ready us xs e h = subst⁻¹ (λ (ys : List ℕ). (length ys ≤ maxHorizon) × Bounded ys) e h
 
 -- A part of an array to compute in is as long as it was asked for.
-pub part-long : (n : ℕ) (xs : List ℕ) → length xs ≡ maxHorizon → n ≤ maxHorizon → n ≡ length (take n xs)
-part-long n xs e h = sym (length-take-le n xs (omega arith))
+pub part-long : (n : ℕ) (xs : List ℕ) → xs ≡ replicate maxHorizon 0 → n ≤ maxHorizon → n ≡ length (take n xs)
+part-long n xs e h = sym (length-take-le n xs (omega (arith, ap length e, length-replicate {A = ℕ} maxHorizon 0)))

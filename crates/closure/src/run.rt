@@ -11,9 +11,6 @@ ghost use Rattle.curves.specs.Rounds.{cutOff, Crossed};
 ghost use Rattle.bounds.specs.Bounds.{maxHorizon, Bounded};
 ghost use Rattle.closure.specs.Steps.{SameLengths, Ready, Fit, Advanced, Stopped, ClosureDelivered, Ended};
 
-// The longest horizon.
-const MAX_HORIZON: usize = 256;
-
 // Where the rounds stop: at a closure, after so many that changed a figure, or at a least above its ceiling.
 enum Stop {
     Settled { rounds: u32 },
@@ -34,10 +31,10 @@ pub(crate) fn to_end(
         (pairOf (now («closed_upper» .exit)) (now («closed_lower» .exit))) ⌝ }
 {
     let h = upper.len();
-    let mut held_upper = zeros();
-    let mut held_lower = zeros();
-    let mut new_upper = zeros();
-    let mut new_lower = zeros();
+    let mut held_upper = lists::zeros();
+    let mut held_lower = lists::zeros();
+    let mut new_upper = lists::zeros();
+    let mut new_lower = lists::zeros();
     to_end_in(
         upper,
         lower,
@@ -95,13 +92,6 @@ fn deliver(
         }
         Stop::Crossed => Closing::NoClosure,
     }
-}
-
-// 256 figures to compute with.
-fn zeros() -> [u32; MAX_HORIZON]
-    ensures { λ r. ⌜ length r ≡ maxHorizon ⌝ }
-{
-    [0u32; MAX_HORIZON]
 }
 
 // The rounds of the pair that is held, until one changes nothing or some least is above its ceiling: that is after at most 9 that change a

@@ -34,7 +34,7 @@ pub record Shortest (p : Pair) (xs : List ℕ) (d : ℕ) : Type 0 where
   pub outside : ¬ Inside p d (last xs d)
   pub shorter : (e : ℕ) → e < d → Judged p xs e → Inside p e (last xs e)
 
--- A verdict on the newest tick; where it is rejected, with a window.
+-- A verdict on the newest tick, by the figures of one pair; where some window is outside them, with that window.
 pub data Verdict : Type 0 where
   passed : Verdict
   tooMany : ℕ → Verdict

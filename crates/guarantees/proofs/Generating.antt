@@ -19,7 +19,7 @@ use Rattle.generator.specs.Generating.{RangeAnswer, ranging, sending}
 use Rattle.generator.specs.Calls.{viewAfter, sendings, ticked, ranged}
 use Rattle.generator.proofs.Said.{range-answer, ranging-range, ranging-none, ranging-from, count-limited, chosen-within, sent-from}
 use Rattle.generator.proofs.Said.{generator-next}
-use Rattle.guarantees.specs.Exact.{Unfailed, JudgedOutside, SendsIffNeither, NoCountIffAllOutside, SmallestAndLargest}
+use Rattle.guarantees.specs.Exact.{LegalUnfailed, JudgedOutside, SendsIffNeither, NoCountIffAllOutside, SmallestAndLargest}
 use Rattle.guarantees.specs.Exact.{RangeShowsExtremes, SendsConforming, EqualGeneratorsAgree, EqualGeneratorsRange, CallsAreSendings}
 use Rattle.guarantees.proofs.Total.{ranging-refused, sending-refused}
 use Rattle.guarantees.proofs.Held.{heldOf, held-fresh, held-added, held-legal, opened-positive}
@@ -43,7 +43,7 @@ module _ (v : View) (l : Legal v) where
       (range-whole (v .pair) (v .held) r _ .1 (chosen-within (range-answer (r .lo) (r .hi)) choice (r .largest (r .lo) (r .lo-keeps))))
 
 -- ---- beside a monitor with the same history
-module _ (w : MonitorView) (f : Unfailed w) where
+module _ (w : MonitorView) (f : LegalUnfailed w) where
   abbrev v : View
   v = w .view
 
@@ -64,8 +64,8 @@ module _ (w : MonitorView) (f : Unfailed w) where
       let (l′, (r, s)) = ranging-from v b e in
       rw (← s)
       (record {
-        lo-admitted = neither-iff w (r .lo) f .1 (r .lo-keeps);
-        hi-admitted = neither-iff w (r .hi) f .1 (r .hi-keeps);
+        lo-neither = neither-iff w (r .lo) f .1 (r .lo-keeps);
+        hi-neither = neither-iff w (r .hi) f .1 (r .hi-keeps);
         smallest = λ x n. r .smallest x (neither-iff w x f .0 n);
         largest = λ x n. r .largest x (neither-iff w x f .0 n);
       })
@@ -76,8 +76,8 @@ module _ (w : MonitorView) (f : Unfailed w) where
       (record {
         lo = b .lo;
         hi = b .hi;
-        lo-keeps = neither-iff w (b .lo) f .0 (e .lo-admitted);
-        hi-keeps = neither-iff w (b .hi) f .0 (e .hi-admitted);
+        lo-keeps = neither-iff w (b .lo) f .0 (e .lo-neither);
+        hi-keeps = neither-iff w (b .hi) f .0 (e .hi-neither);
         smallest = λ x k. e .smallest x (neither-iff w x f .1 k);
         largest = λ x k. e .largest x (neither-iff w x f .1 k);
       })

@@ -3,8 +3,8 @@ pub mod Total
 pub mod Held
 pub mod Rulings
 pub mod Monitoring
-pub mod Lost
 pub mod Generating
+pub mod Lost
 pub mod NeverRefused
 pub mod Cost
 pub mod Marked

@@ -6,7 +6,7 @@ use Rattle.curves.specs.Streams.{Stream}
 use Rattle.curves.specs.Pairs.{Pair, horizon}
 use Rattle.curves.specs.Conformance.{Conforms, Conforms∞, Extendable}
 use Rattle.curves.specs.Ticks.{then, Keeps, passed, tooMany, tooFew}
-use Rattle.curves.specs.Questions.{AllYes, result, refusal}
+use Rattle.curves.specs.Questions.{AllYes, refusal}
 use Rattle.curves.specs.Theorems.{Closes}
 use Rattle.curves.proofs.Asked.{no-refusal}
 use Rattle.curves.proofs.Closure.{closure-streams, causal-takes-no-round}
@@ -21,15 +21,18 @@ use Rattle.monitor.specs.Monitoring.{MonitorView, Ruling, judged, lost}
 use Rattle.monitor.specs.Opening.{monitorOpening, room, freshMonitor}
 use Rattle.monitor.specs.Calls.{afterTicks, rulings}
 use Rattle.monitor.proofs.Opening.{room-passes, opening-yes, opening-fifth, opened-yes, opened-gives}
-use Rattle.guarantees.specs.Exact.{Answers, Opens, AllPass, RightOfWholeStream, NothingPassesAfter}
-use Rattle.guarantees.specs.Lost.{OpeningRefusedIffNoStream, AllPassIffExtendable, LostIffNotExtendable, MonitorOpensOnClosure}
-use Rattle.guarantees.specs.Lost.{NeverLostOnClosure}
-use Rattle.guarantees.proofs.Rulings.{RightRuling}
-use Rattle.guarantees.proofs.Monitoring.{NotLost, after, start, right-of-all, pass-iff, after-passing, failed-after, never-lost}
+use Rattle.guarantees.specs.Exact.{LegalUnfailed, Answers, JudgedOutside, Opens, AllPass, RightOfWholeStream}
+use Rattle.guarantees.specs.Exact.{NothingPassesAfter}
+use Rattle.guarantees.specs.Lost.{MonitorRefusedIffNoStream, AllPassIffExtendable, LostIffNotExtendable, MonitorOpensOnClosure}
+use Rattle.guarantees.specs.Lost.{PassedIffExtendable, OutsideIffNotConforming, NeverLostOnClosure, SendsIffPassesOnClosure}
+use Rattle.guarantees.proofs.Rulings.{RightRuling, outside-iff, neither-iff}
+use Rattle.guarantees.proofs.Generating.{sends-iff-neither}
+use Rattle.guarantees.proofs.Monitoring.{NotLost, after, start, legal, keeps-whole, right-of-all, pass-iff, after-passing}
+use Rattle.guarantees.proofs.Monitoring.{failed-after, never-lost}
 
 -- ---- opening
-pub opening-refused-iff-no-stream : OpeningRefusedIffNoStream
-opening-refused-iff-no-stream p ys = (there, back)
+pub monitor-refused-iff-no-stream : MonitorRefusedIffNoStream
+monitor-refused-iff-no-stream p ys = (there, back)
   where
     there : monitorOpening p ≡ refusal 5 → (s : Stream) → Conforms∞ p (s .counts) → ⊥
     there e =
@@ -88,16 +91,39 @@ module _ (p : Pair) (o : Opens p) where
 
   -- While every tick has passed.
   module _ (xs : List ℕ) (es : AllPass p xs) (x : ℕ) where
-    next-right : (r : Ruling) → Answers (afterTicks (freshMonitor p) xs) x r ↔ RightRuling p q (then xs x) r
-    next-right r =
-        right-of-all p q yes-p yes-q same _ xs (after-passing p q yes-p yes-q same (freshMonitor p) [] xs begun es) x r
+    abbrev now : MonitorView
+    now = afterTicks (freshMonitor p) xs
 
-    next-lost : Answers (afterTicks (freshMonitor p) xs) x lost ↔ (Conforms p (then xs x) × (¬ Extendable p (then xs x)))
-    next-lost =
-        let e = passes-iff xs .0 es in
-        Iff·trans (next-right lost)
-        (Iff·and (keeps-iff p xs x (extendable-conforms p xs e))
-        (Iff·not (Iff·trans (keeps-iff q xs x (extendable-iff xs .1 e)) (extendable-iff (then xs x)))))
+    now-is : now ≡ holding xs
+    now-is = after-passing p q yes-p yes-q same (freshMonitor p) [] xs begun es
+
+    now-unfailed : LegalUnfailed now
+    now-unfailed = rw now-is (record { legal = legal p q yes-p yes-q same xs; mark = refl })
+
+    next-right : (r : Ruling) → Answers now x r ↔ RightRuling p q (then xs x) r
+    next-right r = right-of-all p q yes-p yes-q same now xs now-is x r
+
+    -- To keep every window is to conform to the pair, and to begin an unbounded stream by the closure.
+    given-iff : Keeps p (then xs x) ↔ Conforms p (then xs x)
+    given-iff = keeps-iff p xs x (extendable-conforms p xs (passes-iff xs .0 es))
+
+    closed-iff : Keeps q (then xs x) ↔ Extendable p (then xs x)
+    closed-iff = Iff·trans (keeps-iff q xs x (extendable-iff xs .1 (passes-iff xs .0 es))) (extendable-iff (then xs x))
+
+    next-lost : Answers now x lost ↔ (Conforms p (then xs x) × (¬ Extendable p (then xs x)))
+    next-lost = Iff·trans (next-right lost) (Iff·and given-iff (Iff·not closed-iff))
+
+    next-passed : Answers now x (judged passed) ↔ Extendable p (then xs x)
+    next-passed =
+        Iff·trans (next-right (judged passed))
+        (λ k. closed-iff .0 (k .1), λ e. (given-iff .1 (extendable-conforms p (then xs x) e), closed-iff .1 e))
+
+    -- The held ticks are as good as the whole stream.
+    now-keeps : Keeps (now .view .pair) (then (now .view .held) x) ↔ Conforms p (then xs x)
+    now-keeps = rw now-is (Iff·trans (keeps-whole p q yes-p yes-q same xs x) given-iff)
+
+    next-outside : JudgedOutside now x ↔ (¬ Conforms p (then xs x))
+    next-outside = Iff·trans (outside-iff now x now-unfailed) (Iff·not now-keeps)
 
 pub all-pass-iff-extendable : AllPassIffExtendable
 all-pass-iff-extendable p o xs = passes-iff p o xs
@@ -105,10 +131,15 @@ all-pass-iff-extendable p o xs = passes-iff p o xs
 pub lost-iff-not-extendable : LostIffNotExtendable
 lost-iff-not-extendable p o xs es x = next-lost p o xs es x
 
+pub passed-iff-extendable : PassedIffExtendable
+passed-iff-extendable p o xs es x = next-passed p o xs es x
+
+pub outside-iff-not-conforming : OutsideIffNotConforming
+outside-iff-not-conforming p o xs es x = next-outside p o xs es x
+
 pub right-of-whole-stream : RightOfWholeStream
-right-of-whole-stream p o xs es x passed n = absurd (n refl)
-right-of-whole-stream p o xs es x (tooMany d) n = next-right p o xs es x (judged (tooMany d))
-right-of-whole-stream p o xs es x (tooFew d) n = next-right p o xs es x (judged (tooFew d))
+right-of-whole-stream p o xs es x d =
+    (next-right p o xs es x (judged (tooMany d)), next-right p o xs es x (judged (tooFew d)))
 
 pub nothing-passes-after : NothingPassesAfter
 nothing-passes-after p o xs es x =
@@ -142,3 +173,16 @@ monitor-opens-on-closure = opens
 
 pub never-lost-on-closure : NeverLostOnClosure
 never-lost-on-closure = never
+
+pub sends-iff-passes-on-closure : SendsIffPassesOnClosure
+sends-iff-passes-on-closure p found g xs es x =
+    let q : Pair = closureOf p found in
+    let o : Opens q = opens p found g in
+    let ys : List ℕ = then xs x in
+    let w : MonitorView = afterTicks (freshMonitor q) xs in
+    let f : LegalUnfailed w = now-unfailed q o xs es x in
+    Iff·trans (sends-iff-neither w f x)
+    (Iff·trans (neither-iff w x f)
+    (Iff·trans (now-keeps q o xs es x)
+    (Iff·trans (conforms-iff-extendable p found g ys)
+    (Iff·trans (extendable-same p found g ys) (Iff·symm (next-passed q o xs es x))))))

@@ -12,9 +12,9 @@ use Rattle.curves.specs.Pairs.{Pair, horizon, figure, Equal}
 use Rattle.curves.specs.Conformance.{Conforms}
 use Rattle.curves.specs.Ticks.{passed}
 use Rattle.curves.specs.Streams.{sum}
-use Rattle.curves.specs.Questions.{Question, ask, result, refusal}
+use Rattle.curves.specs.Questions.{Question, ask, result}
 use Rattle.curves.specs.Rounds.{newFigure, round, figuresOf, after}
-use Rattle.curves.proofs.Asked.{said-yes, yes-append, yes-parts}
+use Rattle.curves.proofs.Asked.{yes-append, yes-parts}
 use Rattle.curves.proofs.Arrival.{never-both, crossed?, equal?}
 use Rattle.curves.proofs.Computed.{left?, left, same?, runs?, arrives?, arrives-computed, crosses?, crosses-by?, crosses-by}
 use Rattle.curves.proofs.NextTick.{range-from, range?}

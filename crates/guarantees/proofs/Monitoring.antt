@@ -1,6 +1,6 @@
 -- Demand 2 and request P2, the monitor over a whole stream: what it says of the stream, and that nothing passes after a rejected tick.
 -- Assumes nothing.
-use Rattle.laws.proofs.Base.{ℕ, suc, _-_, _≤_, _≡_, refl, sym, ap, _∙_, subst, true, false, List, [], _∷_, _++_, append-assoc, append-nil}
+use Rattle.laws.proofs.Base.{ℕ, _-_, _≡_, refl, sym, ap, _∙_, true, false, List, [], _∷_, _++_, append-assoc, append-nil}
 use Rattle.laws.proofs.Base.{_↔_, _⊎_, inl, inr, ⊎-elim, arith}
 use mathlib.Core.Logic.{Iff·rfl, Iff·trans, Iff·and, Iff·not}
 use Rattle.laws.specs.Tests.{Each}
@@ -13,12 +13,12 @@ use Rattle.curves.proofs.NextTick.{conforms-start, conforms-keeps, keeps-confor
 use Rattle.curves.proofs.Verdicts.{keeps-newest, right-newest}
 use Rattle.bounds.specs.Bounds.{pairQuestions}
 use Rattle.bounds.proofs.Said.{asking-yes}
-use Rattle.history.specs.States.{View, Legal}
+use Rattle.history.specs.States.{View}
 use Rattle.history.specs.Opening.{fresh}
 use Rattle.monitor.specs.Monitoring.{MonitorView, monitorView, LegalMonitor, Ruling, judged, lost, alreadyFailed, rulingOn, judging}
 use Rattle.monitor.specs.Calls.{afterTick, afterTicks, rulings}
 use Rattle.monitor.proofs.Said.{judging-failed, judging-unfailed, monitor-next}
-use Rattle.guarantees.specs.Exact.{Unfailed, Answers, TicksAreRulings, EqualMonitorsAgree}
+use Rattle.guarantees.specs.Exact.{Answers, TicksAreRulings, EqualMonitorsAgree}
 use Rattle.guarantees.proofs.Held.{heldOf, held-fresh, held-added, held-legal}
 use Rattle.guarantees.proofs.Rulings.{RightRuling, ruling-iff}
 
@@ -49,16 +49,11 @@ module _ (p q : Pair) (ys : AllYes (pairQuestions p)) (ys′ : AllYes (pairQuest
   pub start : monitorView (fresh p) q false ≡ after []
   start = ap (λ (v : View). monitorView v q false) (held-fresh p)
 
-  legal : (xs : List ℕ) → LegalMonitor (after xs)
-  legal xs =
-      record {
-        given = held-legal p (sym (asking-yes p ys)) xs;
-        closed =
-            subst (λ (n : ℕ). Legal (record { pair = q; held = newest (n - 1) xs })) same (held-legal q (sym (asking-yes q ys′)) xs);
-      }
+  pub legal : (xs : List ℕ) → LegalMonitor (after xs)
+  legal xs = record { given = held-legal p (sym (asking-yes p ys)) xs; bounded = ys′ .1 .1 .0 }
 
   -- The last ticks are as good as the whole stream.
-  keeps-whole : (xs : List ℕ) (x : ℕ) → Keeps p (then (newest (horizon p - 1) xs) x) ↔ Keeps p (then xs x)
+  pub keeps-whole : (xs : List ℕ) (x : ℕ) → Keeps p (then (newest (horizon p - 1) xs) x) ↔ Keeps p (then xs x)
   keeps-whole xs x = keeps-newest p (horizon p - 1) xs (omega arith) x
 
   keeps-closed : (xs : List ℕ) (x : ℕ) → Keeps q (then (newest (horizon p - 1) xs) x) ↔ Keeps q (then xs x)
@@ -86,7 +81,7 @@ module _ (p q : Pair) (ys : AllYes (pairQuestions p)) (ys′ : AllYes (pairQuest
     ruling-is = rw s (judging-unfailed (after xs) x (legal xs) refl)
 
     failed-on : (zs : List ℕ) → AllFailed (monitorView (heldOf p xs) q true) zs
-    failed-on zs = failed-stays _ (record { given = legal xs .given; closed = legal xs .closed }) refl zs
+    failed-on zs = failed-stays _ (record { given = legal xs .given; bounded = legal xs .bounded }) refl zs
 
     passed-or-failed : (r : Ruling) → Answers w x r → IsPassed (judging w x) ⊎ ((zs : List ℕ) → AllFailed (afterTick w x) zs)
     passed-or-failed (judged passed) e = inl e

@@ -2,13 +2,13 @@
 use Rattle.laws.proofs.Base.{ℕ, _≡_, refl, sym, ap, _∙_, subst, List, _↔_, inl, inr}
 use mathlib.Core.Logic.{Iff·rfl, Iff·trans, Iff·and}
 use Rattle.curves.specs.Pairs.{Pair}
-use Rattle.curves.specs.Ticks.{Keeps, Verdict, passed, tooMany, tooFew, Right}
+use Rattle.curves.specs.Ticks.{then, Keeps, Verdict, passed, tooMany, tooFew, Right}
 use Rattle.curves.specs.Questions.{result}
 use Rattle.curves.proofs.Asked.{same-result}
 use Rattle.curves.proofs.Verdicts.{verdict?, right-once}
 use Rattle.monitor.specs.Monitoring.{MonitorView, Ruling, judged, lost, alreadyFailed, ruled, rulingOn}
 use Rattle.monitor.proofs.Said.{judging-unfailed}
-use Rattle.guarantees.specs.Exact.{Unfailed, Answers, withTick, SomeOutside, JudgedOutside, OutsideIffSomeWindow, AnswersRight}
+use Rattle.guarantees.specs.Exact.{LegalUnfailed, Answers, SomeOutside, JudgedOutside, OutsideIffSomeWindow, AnswersRight}
 use Rattle.guarantees.specs.Exact.{LostIffOutsideClosed, PassesIffInsideBoth, Neither}
 
 -- A ruling is right for the stream xs, by the pair p as given and the closed figures q.
@@ -50,7 +50,7 @@ not-keeps-iff q xs = (λ n. go n (verdict? q xs .0) (verdict? q xs .1), λ o k. 
     go n (tooMany d) r = (d, r .0 .window-judged, r .0 .outside)
     go n (tooFew d) r = (d, r .0 .window-judged, r .0 .outside)
 
-module _ (w : MonitorView) (x : ℕ) (f : Unfailed w) where
+module _ (w : MonitorView) (x : ℕ) (f : LegalUnfailed w) where
   abbrev p : Pair
   p = w .view .pair
 
@@ -58,7 +58,7 @@ module _ (w : MonitorView) (x : ℕ) (f : Unfailed w) where
   q = w .closed
 
   abbrev ys : List ℕ
-  ys = withTick w x
+  ys = then (w .view .held) x
 
   pub ruling-iff : (r : Ruling) → Answers w x r ↔ RightRuling p q ys r
   ruling-iff r =
@@ -91,15 +91,13 @@ module _ (w : MonitorView) (x : ℕ) (f : Unfailed w) where
       go n (tooFew d) r = absurd (n (d, inr (ruling-iff (judged (tooFew d)) .1 r)))
 
 pub outside-iff-some-window : OutsideIffSomeWindow
-outside-iff-some-window w x f = Iff·trans (outside-iff w x f) (not-keeps-iff (w .view .pair) (withTick w x))
+outside-iff-some-window w x f = Iff·trans (outside-iff w x f) (not-keeps-iff (w .view .pair) (then (w .view .held) x))
 
 pub answers-right : AnswersRight
-answers-right w x f passed n = absurd (n refl)
-answers-right w x f (tooMany d) n = ruling-iff w x f (judged (tooMany d))
-answers-right w x f (tooFew d) n = ruling-iff w x f (judged (tooFew d))
+answers-right w x f d = (ruling-iff w x f (judged (tooMany d)), ruling-iff w x f (judged (tooFew d)))
 
 pub lost-iff-outside-closed : LostIffOutsideClosed
-lost-iff-outside-closed w x f = Iff·trans (ruling-iff w x f lost) (Iff·and Iff·rfl (not-keeps-iff (w .closed) (withTick w x)))
+lost-iff-outside-closed w x f = Iff·trans (ruling-iff w x f lost) (Iff·and Iff·rfl (not-keeps-iff (w .closed) (then (w .view .held) x)))
 
 pub passes-iff-inside-both : PassesIffInsideBoth
 passes-iff-inside-both w x f = ruling-iff w x f (judged passed)

@@ -9,7 +9,7 @@ use Rattle.laws.specs.Tests.{Each}
 use Rattle.curves.specs.Streams.{countLimit}
 use Rattle.curves.specs.Pairs.{Pair}
 use Rattle.curves.specs.Conformance.{Inside, Conforms}
-use Rattle.curves.specs.Ticks.{then, last, Judged, Keeps, Verdict, passed, tooMany, tooFew, Right}
+use Rattle.curves.specs.Ticks.{then, last, Judged, Keeps, passed, tooMany, tooFew, Right}
 use Rattle.curves.specs.Questions.{result, refusal}
 use Rattle.history.specs.States.{viewOf}
 use Rattle.history.specs.Opening.{opening, fresh}
@@ -29,16 +29,12 @@ use Rattle.generator.specs.Promises.{GeneratorTicked, GeneratorRanged}
 use Rattle.generator.specs.Calls.{sendings, Call, Calls, choicesOf, repliesOf}
 
 -- ---- the monitor, in any legal state that has not failed, whoever built it
-pub record Unfailed (w : MonitorView) : Type 0 where
+pub record LegalUnfailed (w : MonitorView) : Type 0 where
   pub legal : LegalMonitor w
   pub mark : w .failed ≡ false
 
 abbrev pub Answers : MonitorView → ℕ → Ruling → Type 0
 Answers w x r = judging w x ≡ result r
-
--- The held ticks with the count x behind them.
-abbrev pub withTick : MonitorView → ℕ → List ℕ
-withTick w x = then (w .view .held) x
 
 -- Some judged window that ends at the newest tick is outside its figures.
 abbrev pub SomeOutside : Pair → List ℕ → Type 0
@@ -50,25 +46,27 @@ JudgedOutside w x = (d : ℕ) × (Answers w x (judged (tooMany d)) ⊎ Answers w
 
 -- That is exactly when some window that ends there is outside its figures as given.
 abbrev pub OutsideIffSomeWindow : Type 0
-OutsideIffSomeWindow = (w : MonitorView) (x : ℕ) → Unfailed w → JudgedOutside w x ↔ SomeOutside (w .view .pair) (withTick w x)
+OutsideIffSomeWindow =
+    (w : MonitorView) (x : ℕ) → LegalUnfailed w → JudgedOutside w x ↔ SomeOutside (w .view .pair) (then (w .view .held) x)
 
--- And the answer has the right verdict, which names the shortest such window.
+-- And the verdict is the right one, which names the shortest such window.
 abbrev pub AnswersRight : Type 0
 AnswersRight =
-    (w : MonitorView) (x : ℕ) → Unfailed w → (v : Verdict) → ¬ (v ≡ passed)
-    → Answers w x (judged v) ↔ Right (w .view .pair) (withTick w x) v
+    (w : MonitorView) (x : ℕ) → LegalUnfailed w → (d : ℕ)
+    → (Answers w x (judged (tooMany d)) ↔ Right (w .view .pair) (then (w .view .held) x) (tooMany d))
+    × (Answers w x (judged (tooFew d)) ↔ Right (w .view .pair) (then (w .view .held) x) (tooFew d))
 
 -- It is 'lost' exactly when no window is outside its figures as given, and some is outside the closed figures that the state holds.
 abbrev pub LostIffOutsideClosed : Type 0
 LostIffOutsideClosed =
-    (w : MonitorView) (x : ℕ) → Unfailed w
-    → Answers w x lost ↔ (Keeps (w .view .pair) (withTick w x) × SomeOutside (w .closed) (withTick w x))
+    (w : MonitorView) (x : ℕ) → LegalUnfailed w
+    → Answers w x lost ↔ (Keeps (w .view .pair) (then (w .view .held) x) × SomeOutside (w .closed) (then (w .view .held) x))
 
 -- And it passes exactly when every window keeps both.
 abbrev pub PassesIffInsideBoth : Type 0
 PassesIffInsideBoth =
-    (w : MonitorView) (x : ℕ) → Unfailed w
-    → Answers w x (judged passed) ↔ (Keeps (w .view .pair) (withTick w x) × Keeps (w .closed) (withTick w x))
+    (w : MonitorView) (x : ℕ) → LegalUnfailed w
+    → Answers w x (judged passed) ↔ (Keeps (w .view .pair) (then (w .view .held) x) × Keeps (w .closed) (then (w .view .held) x))
 
 -- ---- the monitor, freshly opened, over a whole stream
 abbrev pub Opens : Pair → Type 0
@@ -77,11 +75,12 @@ Opens p = monitorOpening p ≡ result tt
 abbrev pub AllPass : Pair → List ℕ → Type 0
 AllPass p xs = Each (λ r. r ≡ result (judged passed)) (rulings (freshMonitor p) xs)
 
--- While every tick has passed, 'too many' and 'too few' are right for the whole stream so far, of which the state holds the last ticks.
+-- While every tick has passed, 'too many' and 'too few' are right for the whole stream so far: the state holds its last ticks only.
 abbrev pub RightOfWholeStream : Type 0
 RightOfWholeStream =
-    (p : Pair) → Opens p → (xs : List ℕ) → AllPass p xs → (x : ℕ) (v : Verdict) → ¬ (v ≡ passed)
-    → Answers (afterTicks (freshMonitor p) xs) x (judged v) ↔ Right p (then xs x) v
+    (p : Pair) → Opens p → (xs : List ℕ) → AllPass p xs → (x d : ℕ)
+    → (Answers (afterTicks (freshMonitor p) xs) x (judged (tooMany d)) ↔ Right p (then xs x) (tooMany d))
+    × (Answers (afterTicks (freshMonitor p) xs) x (judged (tooFew d)) ↔ Right p (then xs x) (tooFew d))
 
 -- Once a tick is rejected, every later one is answered 'already failed'.
 abbrev pub NothingPassesAfter : Type 0
@@ -94,28 +93,28 @@ NothingPassesAfter =
 abbrev pub Neither : MonitorView → ℕ → Type 0
 Neither w x = ¬ JudgedOutside w x
 
--- Some choice sends exactly these counts.
+-- A count is sent by some choice exactly when it is neither.
 abbrev pub SendsIffNeither : Type 0
 SendsIffNeither =
-    (w : MonitorView) → Unfailed w → (x : ℕ)
+    (w : MonitorView) → LegalUnfailed w → (x : ℕ)
     → ((choice : ℕ) × (choice ≤ countLimit) × (sending (w .view) choice ≡ result x)) ↔ Neither w x
 
--- The range, and a tick with any choice, are refused with 13 exactly when every count is one or the other.
+-- The range, and a tick with any choice, are refused with 13 exactly when every count is 'too many' or 'too few'.
 abbrev pub NoCountIffAllOutside : Type 0
 NoCountIffAllOutside =
-    (w : MonitorView) → Unfailed w
+    (w : MonitorView) → LegalUnfailed w
     → ((ranging (w .view) ≡ refusal 13) ↔ ((x : ℕ) → JudgedOutside w x))
     × ((choice : ℕ) → (sending (w .view) choice ≡ refusal 13) ↔ ((x : ℕ) → JudgedOutside w x))
 
 -- The range shows the smallest and the largest count that is neither.
 pub record SmallestAndLargest (w : MonitorView) (b : RangeAnswer) : Type 0 where
-  pub lo-admitted : Neither w (b .lo)
-  pub hi-admitted : Neither w (b .hi)
+  pub lo-neither : Neither w (b .lo)
+  pub hi-neither : Neither w (b .hi)
   pub smallest : (x : ℕ) → Neither w x → b .lo ≤ x
   pub largest : (x : ℕ) → Neither w x → x ≤ b .hi
 
 abbrev pub RangeShowsExtremes : Type 0
-RangeShowsExtremes = (w : MonitorView) → Unfailed w → (b : RangeAnswer) → (ranging (w .view) ≡ result b) ↔ SmallestAndLargest w b
+RangeShowsExtremes = (w : MonitorView) → LegalUnfailed w → (b : RangeAnswer) → (ranging (w .view) ≡ result b) ↔ SmallestAndLargest w b
 
 -- From fresh openings the lists of counts that can be sent are the conforming ones.
 abbrev pub SendsConforming : Type 0

@@ -1,24 +1,25 @@
 -- Request P2: what the monitor's opening, 'lost' and 'passed' say of streams, whatever it computes them by.
-use Prim.Native.Nat.{ℕ}
+use Prim.Native.Nat.{ℕ, _≤_}
 use mathlib.Core.Path.{_≡_}
 use mathlib.Core.List.{List}
 use mathlib.Core.Logic.{_↔_}
 use Rattle.laws.specs.Tests.{Each}
-use Rattle.curves.specs.Streams.{Stream}
+use Rattle.curves.specs.Streams.{countLimit, Stream}
 use Rattle.curves.specs.Pairs.{Pair}
 use Rattle.curves.specs.Conformance.{Conforms, Conforms∞, Extendable}
-use Rattle.curves.specs.Ticks.{then}
+use Rattle.curves.specs.Ticks.{then, passed}
 use Rattle.curves.specs.Questions.{AllYes, result, refusal}
 use Rattle.bounds.specs.Bounds.{pairQuestions}
 use Rattle.closure.specs.Theorems.{GivesClosure, closureOf}
-use Rattle.monitor.specs.Monitoring.{lost}
+use Rattle.monitor.specs.Monitoring.{MonitorView, judged, lost}
 use Rattle.monitor.specs.Opening.{monitorOpening, freshMonitor}
 use Rattle.monitor.specs.Calls.{afterTicks, rulings}
-use Rattle.guarantees.specs.Exact.{Answers, Opens, AllPass}
+use Rattle.generator.specs.Generating.{sending}
+use Rattle.guarantees.specs.Exact.{Answers, JudgedOutside, Opens, AllPass}
 
 -- Opening is refused with 5 exactly when no unbounded stream conforms, for lists that pass questions 1, 2 and 4.
-abbrev pub OpeningRefusedIffNoStream : Type 0
-OpeningRefusedIffNoStream =
+abbrev pub MonitorRefusedIffNoStream : Type 0
+MonitorRefusedIffNoStream =
     (p : Pair) → AllYes (pairQuestions p) → (monitorOpening p ≡ refusal 5) ↔ ((s : Stream) → Conforms∞ p (s .counts) → ⊥)
 
 -- A stream passes whole exactly when it begins an unbounded stream that conforms to the pair as given.
@@ -32,6 +33,18 @@ LostIffNotExtendable =
     (p : Pair) → Opens p → (xs : List ℕ) → AllPass p xs → (x : ℕ)
     → Answers (afterTicks (freshMonitor p) xs) x lost ↔ (Conforms p (then xs x) × (¬ Extendable p (then xs x)))
 
+-- The other two answers cut the streams likewise: it passes exactly when the stream with it begins such an unbounded one, and is 'too many'
+-- or 'too few' exactly when the stream with it does not conform.
+abbrev pub PassedIffExtendable : Type 0
+PassedIffExtendable =
+    (p : Pair) → Opens p → (xs : List ℕ) → AllPass p xs → (x : ℕ)
+    → Answers (afterTicks (freshMonitor p) xs) x (judged passed) ↔ Extendable p (then xs x)
+
+abbrev pub OutsideIffNotConforming : Type 0
+OutsideIffNotConforming =
+    (p : Pair) → Opens p → (xs : List ℕ) → AllPass p xs → (x : ℕ)
+    → JudgedOutside (afterTicks (freshMonitor p) xs) x ↔ (¬ Conforms p (then xs x))
+
 -- A monitor opens on every closure, and then never answers 'lost', whatever it is fed.
 abbrev pub MonitorOpensOnClosure : Type 0
 MonitorOpensOnClosure = (p found : Pair) → GivesClosure p found → Opens (closureOf p found)
@@ -40,3 +53,10 @@ abbrev pub NeverLostOnClosure : Type 0
 NeverLostOnClosure =
     (p found : Pair) → GivesClosure p found → (xs : List ℕ)
     → Each (λ r. ¬ (r ≡ result lost)) (rulings (freshMonitor (closureOf p found)) xs)
+
+-- So there the generator can send exactly the counts that the monitor passes, while all have passed.
+abbrev pub SendsIffPassesOnClosure : Type 0
+SendsIffPassesOnClosure =
+    (p found : Pair) → GivesClosure p found → (xs : List ℕ) → AllPass (closureOf p found) xs → (x : ℕ)
+    → let w : MonitorView = afterTicks (freshMonitor (closureOf p found)) xs in
+    ((choice : ℕ) × (choice ≤ countLimit) × (sending (w .view) choice ≡ result x)) ↔ Answers w x (judged passed)

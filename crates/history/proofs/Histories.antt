@@ -46,7 +46,7 @@ module _ (s : History) where
   pub horizon-seen : horizon (viewOf s .pair) ≡ s .horizon
   horizon-seen = length-table (figure 0 (s .upper)) (s .horizon)
 
-  held-seen : length (viewOf s .held) ≡ s .held
+  pub held-seen : length (viewOf s .held) ≡ s .held
   held-seen = length-table (figure 0 (s .ticks)) (s .held)
 
   pub legal-sizes : Legal (viewOf s) → Sizes s

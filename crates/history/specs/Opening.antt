@@ -1,4 +1,4 @@
--- Opening a monitor or a generator (document 01, questions 1, 2 and 4): two lists in, a state out.
+-- Opening a history (document 01, questions 1, 2 and 4): two lists in, what a monitor's and a generator's state have in common out.
 use mathlib.Core.Path.{_≡_}
 use mathlib.Core.List.{[]}
 use lib.ListN.{replicate}

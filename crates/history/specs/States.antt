@@ -16,7 +16,7 @@ pub record View : Type 0 where
   pub pair : Pair
   pub held : List ℕ
 
--- A history of a horizon, ceilings and leasts, a number of held ticks and an array of them.
+-- A history of a horizon, figures (upper, lower), a number of held ticks and an array of them.
 abbrev pub historyOf : ℕ → List ℕ → List ℕ → ℕ → List ℕ → History
 historyOf h us ls k xs = record { horizon = h; upper = us; lower = ls; held = k; ticks = xs }
 

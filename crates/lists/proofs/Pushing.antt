@@ -1,6 +1,6 @@
 -- Laws over plain variables for a count put behind the held entries of a list: where there is room, and where the oldest goes.
 -- Assumes nothing.
-use Rattle.laws.proofs.Base.{ℕ, suc, _+_, _-_, _≤_, _<_, _≡_, sym, ap, _∙_, List, [], _∷_, _++_, append-nil, arith}
+use Rattle.laws.proofs.Base.{ℕ, suc, _+_, _-_, _≤_, _<_, _≡_, sym, ap, _∙_, List, [], _∷_, _++_, arith}
 use Rattle.laws.proofs.Base.{length, getD, set, take, drop, length-append, length-drop, drop-of-length-le, ext-getD, getD-drop, drop-cons}
 use Rattle.laws.proofs.Base.{add-one, take-all, set-at}
 use lib.ListN.{length-take, take-append-drop}

@@ -1,7 +1,7 @@
 -- Laws over plain variables for an opening: its answer from those of the questions and of closing, and the state that is handed out.
 -- Assumes nothing.
-use Rattle.laws.proofs.Base.{ℕ, _≤_, _≡_, refl, sym, ap, _∙_, subst, false, List, [], _∷_, inl, inr, arith, length, take, replicate}
-use Rattle.laws.proofs.Base.{length-replicate}
+use Rattle.laws.proofs.Base.{ℕ, _≤_, _≡_, refl, sym, ap, _∙_, subst, false, List, [], _∷_, inl, inr, ⊎-elim, arith, length, take}
+use Rattle.laws.proofs.Base.{replicate, length-replicate}
 use types.Run.{OneOf, miss}
 use denote.Enum.Declared.{tagOf}
 use Rattle.curves.specs.Pairs.{Pair, pairOf, first, horizon}
@@ -9,20 +9,17 @@ use Rattle.curves.specs.Questions.{AllYes, FirstNo, result, refusal}
 use Rattle.curves.specs.Theorems.{Closes}
 use Rattle.curves.proofs.Asked.{said-no, said-yes, result-from}
 use Rattle.bounds.specs.Bounds.{maxHorizon, pairQuestions}
-use Rattle.bounds.proofs.Said.{asking-yes, yes-from, no-from}
+use Rattle.bounds.proofs.Said.{asking-yes}
 use Rattle.closure.specs.declared.Closing.{Closing}
 use Rattle.closure.specs.declared.Closing.the-variants as closing
 use Rattle.closure.proofs.Closing as the-closing
-use Rattle.closure.specs.Closing.{ClosingAnswer, closing}
+use Rattle.closure.specs.Closing.{closingQuestions, ClosingAnswer, closing}
 use Rattle.closure.specs.Answers.{closingNumber, closingAnswer}
 use Rattle.closure.specs.Theorems.{PassesFour, GivesClosure}
-use Rattle.closure.proofs.Said.{gives-passes, closed-is}
+use Rattle.closure.proofs.Said.{refused-is, closed-is, cases}
 use Rattle.history.specs.declared.History.{History}
-use Rattle.history.specs.declared.Opening.{Opening}
-use Rattle.history.specs.declared.Opening.the-variants as asked
 use Rattle.history.specs.States.{View, viewOf, entries}
 use Rattle.history.specs.Opening.{opening, fresh, Begun, zeroHistory}
-use Rattle.history.specs.Answers.{openingReply}
 use Rattle.history.proofs.Histories.{entries-take, horizon-seen}
 use Rattle.monitor.specs.declared.MonitorOpening.{MonitorOpening}
 use Rattle.monitor.specs.declared.MonitorOpening.the-variants as opened
@@ -30,15 +27,15 @@ use Rattle.monitor.proofs.MonitorOpening as the-opening
 use Rattle.monitor.specs.Monitoring.{monitorOf, monitorView, monitorViewOf}
 use Rattle.monitor.specs.Opening.{monitorQuestions, monitorOpening, room, freshMonitor, zeroMonitor, MonitorBegun}
 use Rattle.monitor.specs.Answers.{monitorOpeningReply}
-use Rattle.monitor.specs.Steps.{closedFor, openingFor, begunAs}
+use Rattle.monitor.specs.Steps.{monitorOpeningFor, begunAs}
 
 -- ---- the arms for all other cases
-pub not-closed : (c : Closing) → OneOf (1 ∷ 2 ∷ 3 ∷ 4 ∷ 5 ∷ []) (tagOf the-closing.the-type c) → opened.NoClosure ≡ closedFor c
-not-closed (closing.Closed n) m = absurd (miss (1 ∷ 2 ∷ 3 ∷ 4 ∷ 5 ∷ []) 0 tt m)
-not-closed closing.UpperLength m = refl
-not-closed closing.LowerLength m = refl
+pub not-closed : (c : Closing) → OneOf (3 ∷ 5 ∷ []) (tagOf the-closing.the-type c) → opened.NoClosure ≡ monitorOpeningFor c
+not-closed (closing.Closed n) m = absurd (miss (3 ∷ 5 ∷ []) 0 tt m)
+not-closed closing.UpperLength m = absurd (miss (3 ∷ 5 ∷ []) 1 tt m)
+not-closed closing.LowerLength m = absurd (miss (3 ∷ 5 ∷ []) 2 tt m)
 not-closed closing.ResultLength m = refl
-not-closed closing.FigureLimit m = refl
+not-closed closing.FigureLimit m = absurd (miss (3 ∷ 5 ∷ []) 4 tt m)
 not-closed closing.NoClosure m = refl
 
 pub begun-zero : (o : MonitorOpening) (h : History) (us ls : List ℕ) → OneOf (1 ∷ 2 ∷ 3 ∷ 4 ∷ []) (tagOf the-opening.the-type o)
@@ -60,43 +57,57 @@ zero-is h us ls e u l = λ i. monitorOf (e i) (u i) (l i) false
 
 -- ---- the answer
 module _ (p : Pair) where
-  -- Questions 1, 2 and 4 come before 5.
-  opening-no : (n : ℕ) → FirstNo (pairQuestions p) n → refusal n ≡ monitorOpening p
+  -- There is room for every closure, so closing asks 1, 2, 4 and 5.
+  pub room-passes : AllYes (pairQuestions p) → PassesFour p room
+  room-passes ys =
+      let wide = length-replicate {A = ℕ} maxHorizon 0 in
+      (ys .0, (ys .1 .0, ((omega (arith, wide, ys .0 .1), omega (arith, wide, ys .0 .1)), (ys .1 .1 .0, tt))))
+
+  same-no : (n : ℕ) → FirstNo (closingQuestions p room) n → FirstNo (monitorQuestions p) n
+  same-no n (inl a) = inl a
+  same-no n (inr (y, inl a)) = inr (y, inl a)
+  same-no n (inr (y, inr (z, inl a))) =
+      let wide = length-replicate {A = ℕ} maxHorizon 0 in absurd (a .1 (omega (arith, wide, y .1), omega (arith, wide, y .1)))
+  same-no n (inr (y, inr (z, inr (u, inl a)))) = inr (y, inr (z, inl a))
+  same-no n (inr (y, inr (z, inr (u, inr (v, inl a))))) = inr (y, inr (z, inr (v, inl a)))
+  same-no n (inr (y, inr (z, inr (u, inr (v, inr (c, f)))))) = absurd f
+
+  pub opening-yes : AllYes (pairQuestions p) → Closes p → result tt ≡ monitorOpening p
   unfolding monitorOpening
-  opening-no n f = sym (said-no (monitorQuestions p) _ _ n (more f))
-    where
-      more : FirstNo (pairQuestions p) n → FirstNo (monitorQuestions p) n
-      more (inl a) = inl a
-      more (inr (y, inl a)) = inr (y, inl a)
-      more (inr (y, inr (z, inl a))) = inr (y, inr (z, inl a))
-      more (inr (y, inr (z, inr (u, f)))) = absurd f
+  opening-yes ys c = sym (said-yes (monitorQuestions p) _ _ (result tt) (ys .0, (ys .1 .0, (ys .1 .1 .0, (c, tt)))) (λ _. refl))
 
-  module _ (ys : AllYes (pairQuestions p)) where
-    -- There is room for every closure, so closing asks 1, 2, 4 and 5.
-    pub room-passes : PassesFour p room
-    room-passes =
-        let wide = length-replicate {A = ℕ} maxHorizon 0 in
-        (ys .0, (ys .1 .0, ((omega (arith, wide, ys .0 .1), omega (arith, wide, ys .0 .1)), (ys .1 .1 .0, tt))))
+  pub opening-no : (n : ℕ) → FirstNo (monitorQuestions p) n → refusal n ≡ monitorOpening p
+  unfolding monitorOpening
+  opening-no n f = sym (said-no (monitorQuestions p) _ _ n f)
 
-    pub opening-yes : Closes p → result tt ≡ monitorOpening p
-    unfolding monitorOpening
-    opening-yes c = sym (said-yes (monitorQuestions p) _ _ (result tt) (ys .0, (ys .1 .0, (ys .1 .1 .0, (c, tt)))) (λ _. refl))
+  pub opening-fifth : AllYes (pairQuestions p) → ¬ Closes p → refusal 5 ≡ monitorOpening p
+  opening-fifth ys n = opening-no 5 (inr (ys .0, inr (ys .1 .0, inr (ys .1 .1 .0, inl (refl, n)))))
 
-    pub opening-fifth : ¬ Closes p → refusal 5 ≡ monitorOpening p
-    unfolding monitorOpening
-    opening-fifth n = sym (said-no (monitorQuestions p) _ _ 5 (inr (ys .0, inr (ys .1 .0, inr (ys .1 .1 .0, inl (refl, n))))))
+  -- No refusal has the number 0, and none has 3.
+  numbered : (n : ℕ) → FirstNo (monitorQuestions p) n → (1 ≤ n) × (¬ (n ≡ 3))
+  numbered n (inl (e, f)) = (omega arith, λ z. omega arith)
+  numbered n (inr (y, inl (e, f))) = (omega arith, λ z. omega arith)
+  numbered n (inr (y, inr (z, inl (e, f)))) = (omega arith, λ z. omega arith)
+  numbered n (inr (y, inr (z, inr (u, inl (e, f))))) = (omega arith, λ z. omega arith)
+  numbered n (inr (y, inr (z, inr (u, inr (c, f))))) = absurd f
 
-    -- Closing gives another number only where there is no closure.
-    unclosed : (n : ℕ) → 1 ≤ n → n ≡ closing p room .number → ¬ Closes p
-    unclosed n u e (k, q, a) = omega (arith, ap (λ r. r .number) (closed-is p room k q room-passes a))
+  -- Where closing is refused with n, and where it is not.
+  refused-answers : (c : Closing) (n : ℕ) → FirstNo (monitorQuestions p) n → closingNumber c ≡ n
+      → monitorOpeningReply (monitorOpeningFor c) ≡ refusal n
+  refused-answers (closing.Closed k) n f e = absurd (omega (arith, numbered n f .0))
+  refused-answers closing.UpperLength n f e = ap refusal e
+  refused-answers closing.LowerLength n f e = ap refusal e
+  refused-answers closing.ResultLength n f e = absurd (numbered n f .1 (sym e))
+  refused-answers closing.FigureLimit n f e = ap refusal e
+  refused-answers closing.NoClosure n f e = ap refusal e
 
-    closed-answers : (c : Closing) → closingNumber c ≡ closing p room .number → monitorOpeningReply (closedFor c) ≡ monitorOpening p
-    closed-answers (closing.Closed n) e = opening-yes (gives-passes p room (sym e) .1)
-    closed-answers closing.UpperLength e = opening-fifth (unclosed 1 (omega arith) e)
-    closed-answers closing.LowerLength e = opening-fifth (unclosed 2 (omega arith) e)
-    closed-answers closing.ResultLength e = opening-fifth (unclosed 3 (omega arith) e)
-    closed-answers closing.FigureLimit e = opening-fifth (unclosed 4 (omega arith) e)
-    closed-answers closing.NoClosure e = opening-fifth (unclosed 5 (omega arith) e)
+  closed-answers : (c : Closing) → closingNumber c ≡ 0 → monitorOpeningReply (monitorOpeningFor c) ≡ result tt
+  closed-answers (closing.Closed k) e = refl
+  closed-answers closing.UpperLength e = absurd (omega arith)
+  closed-answers closing.LowerLength e = absurd (omega arith)
+  closed-answers closing.ResultLength e = absurd (omega arith)
+  closed-answers closing.FigureLimit e = absurd (omega arith)
+  closed-answers closing.NoClosure e = absurd (omega arith)
 
   -- Where it is not refused, all are answered yes, and closing gives the closure.
   opened-from : monitorOpening p ≡ result tt → AllYes (monitorQuestions p)
@@ -111,16 +122,18 @@ module _ (p : Pair) where
       let (n, q, a) = opened-from e .1 .1 .1 .0 in
       ap (λ r. r .number) (closed-is p room n q (room-passes (opened-yes e)) a)
 
-  found-answers : (o : Opening) (c : Closing) → openingReply o ≡ opening p → closingNumber c ≡ closing p room .number
-      → monitorOpeningReply (openingFor o c) ≡ monitorOpening p
-  found-answers asked.Opened c e f = closed-answers (yes-from p (sym e)) c f
-  found-answers asked.UpperLength c e f = opening-no 1 (no-from p 1 (sym e))
-  found-answers asked.LowerLength c e f = opening-no 2 (no-from p 2 (sym e))
-  found-answers asked.FigureLimit c e f = opening-no 4 (no-from p 4 (sym e))
-
-  pub answers : (a : MonitorOpening) (o : Opening) (c : Closing) → a ≡ openingFor o c → openingReply o ≡ opening p
-      → closingNumber c ≡ closing p room .number → monitorOpeningReply a ≡ monitorOpening p
-  answers a o c is e f = ap monitorOpeningReply is ∙ found-answers o c e f
+  pub answers : (a : MonitorOpening) (c : Closing) → a ≡ monitorOpeningFor c → closingNumber c ≡ closing p room .number
+      → monitorOpeningReply a ≡ monitorOpening p
+  answers a c is e =
+      ap monitorOpeningReply is
+      ∙ ⊎-elim
+      (λ (n, f).
+      refused-answers c n (same-no n f) (e ∙ ap (λ r. r .number) (refused-is p room n f)) ∙ opening-no n (same-no n f))
+      (λ (passes, closes).
+      let (n, q, a) = closes in
+      closed-answers c (e ∙ ap (λ r. r .number) (closed-is p room n q passes a))
+      ∙ opening-yes (passes .0, (passes .1 .0, (passes .1 .1 .1 .0, tt))) closes)
+      (cases p room)
 
   -- The result lists that closing is lent are of zeros.
   pub in-room : (a : ClosingAnswer) (us ls : List ℕ) → us ≡ replicate maxHorizon 0 → ls ≡ replicate maxHorizon 0

@@ -3,20 +3,22 @@
 use Rattle.laws.proofs.Base.{ℕ, _-_, _≡_, refl, sym, ap, _∙_, Bool, false, List, [], _∷_, _++_, arith, take, drop}
 use types.Run.{OneOf, miss}
 use denote.Enum.Declared.{tagOf}
+use Rattle.curves.specs.Pairs.{horizon}
 use Rattle.curves.specs.Ticks as ticks
 use Rattle.curves.specs.Questions.{result}
 use Rattle.lists.specs.Pushing.{Pushed}
 use Rattle.history.specs.declared.History.{History}
-use Rattle.history.specs.States.{View, historyOf, viewOf, added}
+use Rattle.history.specs.States.{View, historyOf, viewOf, added, Legal}
+use Rattle.history.proofs.Histories.{horizon-seen, held-seen}
 use Rattle.history.proofs.Slicing.{Arrays, some-window, tick-for-each, added-is}
 use Rattle.monitor.specs.declared.Monitor.{Monitor}
 use Rattle.monitor.specs.declared.Verdict.{Verdict}
 use Rattle.monitor.specs.declared.Verdict.the-variants.{Passed, TooMany, TooFew, Lost, AlreadyFailed, BadState}
 use Rattle.monitor.proofs.Verdict.{the-type}
 use Rattle.monitor.specs.Monitoring.{MonitorView, monitorView, monitorOf, monitorViewOf, closedView, LegalMonitor, verdictOn}
-use Rattle.monitor.specs.Monitoring.{judged, lost, ruled, judging, passedOn, MonitorNext}
+use Rattle.monitor.specs.Monitoring.{judged, lost, ruled, judging, afterPassed, MonitorNext}
 use Rattle.monitor.specs.Answers.{verdictReply}
-use Rattle.monitor.specs.Steps.{HoldsWhere, HeldMore, HeldAsFound, Held, markAfter}
+use Rattle.monitor.specs.Steps.{ClosedWithin, HoldsWhere, HeldMore, HeldAsFound, Held, markAfter}
 use Rattle.monitor.proofs.Said.{judging-legal, judging-unfailed}
 
 -- ---- the ruling
@@ -55,6 +57,18 @@ ruled-passed v v′ u u′ k e k′ e′ =
     let h : ticks.passed ≡ u = cc (ap verdictReply k) in
     let h′ : ticks.passed ≡ u′ = cc (ap verdictReply k′) in
     λ i. result (ruled (h i) (h′ i))
+
+-- The held ticks with closed figures that are within the limit have the form of a state too: the sizes are those of the history.
+pub closed-legal : (h : History) (us ls : List ℕ) → Legal (viewOf h) → ClosedWithin (h .horizon) us ls
+    → Legal (viewOf (historyOf (h .horizon) us ls (h .held) (h .ticks)))
+closed-legal h us ls l b =
+    let other = historyOf (h .horizon) us ls (h .held) (h .ticks) in
+    let wide : horizon (viewOf other .pair) ≡ horizon (viewOf h .pair) = omega (arith, horizon-seen other, horizon-seen h) in
+    record {
+      lengths = (omega (arith, wide, l .lengths .0), omega (arith, wide, l .lengths .1));
+      figures = b;
+      fewer = omega (arith, wide, held-seen other, held-seen h, l .fewer);
+    }
 
 -- The two runs are on slices of what the state has.
 pub ruled-answers : (w : MonitorView) (x : ℕ) → LegalMonitor w → w .failed ≡ false → (r : Verdict) (v v′ : View)
@@ -102,7 +116,7 @@ module _ (m : Monitor) (x : ℕ) (a : Arrays (m .history)) (left : List ℕ) (n 
   kept b (f, g) = λ i. nextWith m (f i) (g i) b
 
   passed-next : LegalMonitor (monitorViewOf m) → HeldMore (m .history .horizon) (m .history .held) x (m .history .ticks) left n
-      → monitorViewOf (nextWith m left n false) ≡ passedOn (monitorViewOf m) x
+      → monitorViewOf (nextWith m left n false) ≡ afterPassed (monitorViewOf m) x
   passed-next l (front, p, f) =
       let h : History = m .history in
       let shown : viewOf (historyOf (h .horizon) (h .upper) (h .lower) n left) ≡ added (viewOf h) x =

@@ -1,6 +1,5 @@
 -- What the operations answer, case by case, and the views of the states that they hand back. Assumes nothing.
 use Rattle.laws.proofs.Base.{ℕ, _≡_, refl, sym, ap, _∙_, subst, Bool, true, false, cond, arith, inl}
-use Rattle.curves.specs.Pairs.{Pair}
 use Rattle.curves.specs.Ticks.{then, Verdict, passed, tooMany, tooFew, Right}
 use Rattle.curves.specs.Questions.{Reply, result, refusal}
 use Rattle.curves.proofs.Asked.{said-no, said-yes, same-result, result-from}

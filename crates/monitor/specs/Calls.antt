@@ -6,15 +6,19 @@ use Rattle.curves.specs.Ticks.{passed, tooMany, tooFew}
 use Rattle.curves.specs.Questions.{Reply, result, refusal}
 use Rattle.monitor.specs.declared.Monitor.{Monitor}
 use Rattle.monitor.specs.declared.Judgement.{Judgement}
-use Rattle.monitor.specs.Monitoring.{MonitorView, monitorView, Ruling, judged, lost, alreadyFailed, judging, passedOn}
+use Rattle.monitor.specs.Monitoring.{MonitorView, monitorView, Ruling, judged, lost, alreadyFailed, judging, afterPassed}
 use Rattle.monitor.specs.Promises.{MonitorTicked}
 
 -- ---- by the view of a state
+-- A tick that is rejected sets the mark.
+abbrev pub afterRejected : MonitorView → MonitorView
+afterRejected w = monitorView (w .view) (w .closed) true
+
 abbrev pub monitorAfter : Reply Ruling → MonitorView → ℕ → MonitorView
-monitorAfter (result (judged passed)) w x = passedOn w x
-monitorAfter (result (judged (tooMany d))) w x = monitorView (w .view) (w .closed) true
-monitorAfter (result (judged (tooFew d))) w x = monitorView (w .view) (w .closed) true
-monitorAfter (result lost) w x = monitorView (w .view) (w .closed) true
+monitorAfter (result (judged passed)) w x = afterPassed w x
+monitorAfter (result (judged (tooMany d))) w x = afterRejected w
+monitorAfter (result (judged (tooFew d))) w x = afterRejected w
+monitorAfter (result lost) w x = afterRejected w
 monitorAfter (result alreadyFailed) w x = w
 monitorAfter (refusal n) w x = w
 

@@ -8,12 +8,13 @@ use Rattle.curves.specs.Pairs.{Pair, pairOf}
 use Rattle.curves.specs.Ticks.{then, Verdict, passed, tooMany, tooFew, Right}
 use Rattle.curves.specs.Questions.{Question, Reply, result, refusal, replyTo}
 use Rattle.curves.proofs.Verdicts.{verdict?}
+use Rattle.bounds.specs.Bounds.{question4}
 use Rattle.history.specs.declared.History.{History}
 use Rattle.history.specs.States.{View, entries, viewOf, added, Legal, legal?}
 use Rattle.monitor.specs.declared.Monitor.{Monitor}
 
--- The view of a monitor's state: that of its history, with the pair as given; the closed figures, up to the same horizon; and whether it
--- has failed.
+-- The view of a monitor's state: that of its history, with the pair as given; the closed figures, in a state up to the same horizon; and
+-- whether it has failed.
 pub record MonitorView : Type 0 where
   pub view : View
   pub closed : Pair
@@ -36,16 +37,16 @@ EqualMonitors m m′ = monitorViewOf m ≡ monitorViewOf m′
 abbrev pub closedView : MonitorView → View
 closedView w = record { pair = w .closed; held = w .view .held }
 
--- 12. The state has its form with the figures as given, and with the closed ones: none of these is above the limit either.
+-- 12. As of a history, and no closed figure is above the limit either.
 pub record LegalMonitor (w : MonitorView) : Type 0 where
   pub given : Legal (w .view)
-  pub closed : Legal (closedView w)
+  pub bounded : question4 (w .closed) .asked
 
 unfoldable pub legalMonitor? : (w : MonitorView) → Dec (LegalMonitor w)
 legalMonitor? w =
-    elim (Dec·and (legal? (w .view)) (legal? (closedView w))) [
-      | yes h ↦ yes (record { given = h .0; closed = h .1 })
-      | no h ↦ no (λ l. h (l .given, l .closed))
+    elim (Dec·and (legal? (w .view)) (question4 (w .closed) .answered)) [
+      | yes h ↦ yes (record { given = h .0; bounded = h .1 })
+      | no h ↦ no (λ l. h (l .given, l .bounded))
     ]
 
 abbrev pub monitorQuestion12 : MonitorView → Question
@@ -75,7 +76,7 @@ rulingOn w x = ruled (verdictOn (w .view) x) (verdictOn (closedView w) x)
 unfoldable pub judging : MonitorView → ℕ → Reply Ruling
 judging w x = replyTo (monitorQuestion12 w ∷ []) (λ yeses. cond (w .failed) alreadyFailed (rulingOn w x))
 
--- A monitor of a history, closed ceilings and leasts, and a mark.
+-- A monitor of a history, closed figures (upper, lower) and a mark.
 abbrev pub monitorOf : History → List ℕ → List ℕ → Bool → Monitor
 monitorOf h us ls b = record { history = h; «closed_upper» = us; «closed_lower» = ls; failed = b }
 
@@ -84,12 +85,12 @@ abbrev pub markedFailed : Monitor → Monitor
 markedFailed m = monitorOf (m .history) (m .«closed_upper») (m .«closed_lower») true
 
 -- The view after a tick that passed: the tick is added, the closed figures stay.
-abbrev pub passedOn : MonitorView → ℕ → MonitorView
-passedOn w x = monitorView (added (w .view) x) (w .closed) false
+abbrev pub afterPassed : MonitorView → ℕ → MonitorView
+afterPassed w x = monitorView (added (w .view) x) (w .closed) false
 
 -- The next state. After a tick that passed, what lies outside the next state's view is free; else every field and entry is settled.
 abbrev pub MonitorNext : Reply Ruling → Monitor → ℕ → Monitor → Type 0
-MonitorNext (result (judged passed)) m x next = monitorViewOf next ≡ passedOn (monitorViewOf m) x
+MonitorNext (result (judged passed)) m x next = monitorViewOf next ≡ afterPassed (monitorViewOf m) x
 MonitorNext (result (judged (tooMany d))) m x next = next ≡ markedFailed m
 MonitorNext (result (judged (tooFew d))) m x next = next ≡ markedFailed m
 MonitorNext (result lost) m x next = next ≡ markedFailed m

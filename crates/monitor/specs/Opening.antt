@@ -1,11 +1,11 @@
 -- Opening a monitor (document 01, questions 1, 2 and 4; 5 by request P2, since opening closes the pair): two lists in, a state out.
 use mathlib.Core.Path.{_≡_}
 use mathlib.Core.Bool.{false}
-use mathlib.Core.List.{List, [], _∷_}
+use mathlib.Core.List.{List, [], _∷_, _++_}
 use lib.ListN.{replicate}
 use Rattle.curves.specs.Pairs.{Pair, pairOf}
 use Rattle.curves.specs.Questions.{Question, Reply, result, refusal, replyTo}
-use Rattle.bounds.specs.Bounds.{maxHorizon, question1, question2, question4}
+use Rattle.bounds.specs.Bounds.{maxHorizon, pairQuestions}
 use Rattle.closure.specs.Closing.{question5}
 use Rattle.closure.specs.Theorems.{closureOf}
 use Rattle.history.specs.Opening.{fresh, zeroHistory}
@@ -13,13 +13,13 @@ use Rattle.monitor.specs.declared.Monitor.{Monitor}
 use Rattle.monitor.specs.Monitoring.{MonitorView, monitorView, monitorViewOf, monitorOf}
 
 abbrev pub monitorQuestions : Pair → List Question
-monitorQuestions p = question1 p ∷ question2 p ∷ question4 p ∷ question5 p ∷ []
+monitorQuestions p = pairQuestions p ++ (question5 p ∷ [])
 
 -- What an opening answers.
 unfoldable pub monitorOpening : Pair → Reply (Unit {0})
 monitorOpening p = replyTo (monitorQuestions p) (λ _. tt)
 
--- Lists for a closure, with room for every horizon.
+-- Result lists with room for the closure of every horizon. What they hold has no effect.
 abbrev pub room : Pair
 room = pairOf (replicate maxHorizon 0) (replicate maxHorizon 0)
 

@@ -4,12 +4,12 @@ use mathlib.Core.Path.{_≡_}
 use mathlib.Core.Bool.{Bool, true, false}
 use mathlib.Core.List.{List, _++_}
 use lib.ListN.{length, take, drop}
+use Rattle.bounds.specs.Bounds.{Bounded}
 use Rattle.lists.specs.Pushing.{Pushed}
 use Rattle.closure.specs.declared.Closing.{Closing}
 use Rattle.closure.specs.declared.Closing.the-variants as closing
 use Rattle.history.specs.declared.History.{History}
-use Rattle.history.specs.declared.Opening.{Opening}
-use Rattle.history.specs.declared.Opening.the-variants as asked
+use Rattle.history.specs.States.{entries}
 use Rattle.monitor.specs.declared.Monitor.{Monitor}
 use Rattle.monitor.specs.declared.MonitorOpening.{MonitorOpening}
 use Rattle.monitor.specs.declared.MonitorOpening.the-variants as opening
@@ -19,20 +19,14 @@ use Rattle.monitor.specs.Monitoring.{monitorOf}
 use Rattle.monitor.specs.Opening.{zeroMonitor}
 
 -- ---- an opening
--- What it answers to what was found of the lists, and to what closing answered.
-abbrev pub closedFor : Closing → MonitorOpening
-closedFor (closing.Closed n) = opening.Opened
-closedFor closing.UpperLength = opening.NoClosure
-closedFor closing.LowerLength = opening.NoClosure
-closedFor closing.ResultLength = opening.NoClosure
-closedFor closing.FigureLimit = opening.NoClosure
-closedFor closing.NoClosure = opening.NoClosure
-
-abbrev pub openingFor : Opening → Closing → MonitorOpening
-openingFor asked.Opened c = closedFor c
-openingFor asked.UpperLength c = opening.UpperLength
-openingFor asked.LowerLength c = opening.LowerLength
-openingFor asked.FigureLimit c = opening.FigureLimit
+-- What it answers to what closing answered. With room for every horizon closing is not refused with 3.
+abbrev pub monitorOpeningFor : Closing → MonitorOpening
+monitorOpeningFor (closing.Closed n) = opening.Opened
+monitorOpeningFor closing.UpperLength = opening.UpperLength
+monitorOpeningFor closing.LowerLength = opening.LowerLength
+monitorOpeningFor closing.ResultLength = opening.NoClosure
+monitorOpeningFor closing.FigureLimit = opening.FigureLimit
+monitorOpeningFor closing.NoClosure = opening.NoClosure
 
 -- The monitor that is handed out.
 abbrev pub begunAs : MonitorOpening → History → List ℕ → List ℕ → Monitor
@@ -41,6 +35,11 @@ begunAs opening.UpperLength h us ls = zeroMonitor
 begunAs opening.LowerLength h us ls = zeroMonitor
 begunAs opening.FigureLimit h us ls = zeroMonitor
 begunAs opening.NoClosure h us ls = zeroMonitor
+
+-- ---- question 12
+-- What it asks of the closed figures, by the arrays that hold them.
+abbrev pub ClosedWithin : ℕ → List ℕ → List ℕ → Type 0
+ClosedWithin h us ls = Bounded (entries h us) × Bounded (entries h ls)
 
 -- ---- the held ticks after a verdict
 -- The horizon matters where a tick is to be added.

@@ -3,17 +3,19 @@
 use closure::Closing;
 use history::History;
 use history::Legality;
-use history::Opening;
 ghost use mathlib.Core.Path.{_≡_};
+ghost use Prim.Native.Nat.{_≤_};
+ghost use Rattle.laws.specs.Tests.{Tells};
 ghost use Rattle.curves.specs.Pairs.{pairOf};
 ghost use Rattle.curves.specs.Questions.{result};
+ghost use Rattle.bounds.specs.Bounds.{maxHorizon};
 ghost use Rattle.history.specs.States.{historyOf};
 ghost use Rattle.history.specs.Steps.{Slices, viewWith};
 ghost use Rattle.monitor.specs.Monitoring.{monitorOf, monitorViewOf, judged, verdictOn, ruled, judging};
 ghost use Rattle.monitor.specs.Opening.{zeroMonitor};
 ghost use Rattle.monitor.specs.Answers.{verdictReply};
 ghost use Rattle.monitor.specs.Promises.{MonitorOpened, MonitorTicked};
-ghost use Rattle.monitor.specs.Steps.{closedFor, openingFor, begunAs, HoldsWhere, Held, markAfter};
+ghost use Rattle.monitor.specs.Steps.{monitorOpeningFor, begunAs, ClosedWithin, HoldsWhere, Held, markAfter};
 
 // The longest horizon.
 const MAX_HORIZON: usize = 256;
@@ -22,7 +24,7 @@ const MAX_HORIZON: usize = 256;
 pub struct Monitor {
     // The pair as given, and the held ticks.
     pub history: History,
-    // The figures of the closure; entry 0 for the window of one tick.
+    // The closed figures, after an opening those of the closure; entry 0 for the window of one tick.
     pub closed_upper: [u32; MAX_HORIZON],
     pub closed_lower: [u32; MAX_HORIZON],
     pub failed: bool,
@@ -49,14 +51,15 @@ pub struct OpenedMonitor {
 // What a tick is found to be.
 pub enum Verdict {
     Passed,
-    // The shortest window that ends at the tick and is outside its figures: it has too many, or too few.
+    // The shortest window that ends at the tick and is outside its figures as given: it has too many, or too few.
     TooMany { window: usize },
     TooFew { window: usize },
-    // Every window that ends at the tick keeps its figures, and some is outside its closed ones: the stream cannot be extended without end.
+    // Every window that ends at the tick keeps its figures as given, and some is outside its closed ones. After an opening that means that
+    // the stream conforms and is not extendable.
     Lost,
     // A tick before this one was rejected.
     AlreadyFailed,
-    // 12: the state has no legal horizon, a figure above 16,776,960, or as many held ticks as its horizon or more.
+    // 12: the state has no legal horizon, a figure, given or closed, above 16,776,960, or as many held ticks as its horizon or more.
     BadState,
 }
 
@@ -73,16 +76,15 @@ impl Monitor {
         let mut closed_upper = lists::zeros();
         let mut closed_lower = lists::zeros();
         let closing = closure::close(upper, lower, &mut closed_upper, &mut closed_lower);
+        let opening = opening_for(closing);
         let start = History::open(upper, lower);
-        let asked = start.opening;
         let history = start.history;
-        let opening = opening_for(asked, closing);
         let state = begin(opening, history, closed_upper, closed_lower);
         OpenedMonitor { opening, state }
     }
 
-    // Judges the next tick. It is added to the history where it passes; else the monitor has failed. Each array is taken out of the state
-    // once and put into the next one once: what lies between works on them where they are, as copies are most of what a tick costs.
+    // Judges the next tick. It is added to the history where it passes; one that is rejected sets the failed mark. Each array is taken out
+    // of the state once and put into the next one once: what lies between works on them where they are, as copies cost most of a tick.
     pub fn tick(self, count: u32) -> Judgement
         ensures { λ r. ⌜ MonitorTicked self count r ⌝ }
     {
@@ -113,36 +115,25 @@ impl Monitor {
             held,
             ticks,
         };
-        Judgement {
-            verdict,
-            next: Monitor {
-                history,
-                closed_upper,
-                closed_lower,
-                failed,
-            },
-        }
+        let next = Monitor {
+            history,
+            closed_upper,
+            closed_lower,
+            failed,
+        };
+        Judgement { verdict, next }
     }
 }
 
-// What an opening answers to what was found of the lists, and to what closing them answered.
-fn opening_for(asked: Opening, closing: Closing) -> MonitorOpening
-    ensures { λ r. ⌜ r ≡ openingFor asked closing ⌝ }
-{
-    match asked {
-        Opening::Opened => closed_for(closing),
-        Opening::UpperLength => MonitorOpening::UpperLength,
-        Opening::LowerLength => MonitorOpening::LowerLength,
-        Opening::FigureLimit => MonitorOpening::FigureLimit,
-    }
-}
-
-// Where the lists pass questions 1, 2 and 4: the closing, with room for every horizon, is refused with 5 alone.
-fn closed_for(closing: Closing) -> MonitorOpening
-    ensures { λ r. ⌜ r ≡ closedFor closing ⌝ }
+// What an opening answers to what closing answered: 3 cannot come, as there is room for every horizon.
+fn opening_for(closing: Closing) -> MonitorOpening
+    ensures { λ r. ⌜ r ≡ monitorOpeningFor closing ⌝ }
 {
     match closing {
         Closing::Closed { rounds: _ } => MonitorOpening::Opened,
+        Closing::UpperLength => MonitorOpening::UpperLength,
+        Closing::LowerLength => MonitorOpening::LowerLength,
+        Closing::FigureLimit => MonitorOpening::FigureLimit,
         _ => MonitorOpening::NoClosure,
     }
 }
@@ -167,7 +158,7 @@ fn begin(
     }
 }
 
-// That of a refused opening. It fails question 12.
+// The monitor that a refused opening hands out. It fails question 12.
 fn zero() -> Monitor
     ensures { λ r. ⌜ r ≡ zeroMonitor ⌝ }
 {
@@ -182,7 +173,7 @@ fn zero() -> Monitor
     }
 }
 
-// The verdict on the next tick. Question 12, of the figures as given and of the closed ones, comes before the failed mark.
+// The verdict on the next tick. Question 12, of the closed figures too, comes before the failed mark.
 fn find_verdict(
     horizon: usize,
     upper: &[u32; MAX_HORIZON],
@@ -200,9 +191,9 @@ fn find_verdict(
     let Legality::Legal = history::ask_legality(horizon, upper, lower, held) else {
         return Verdict::BadState;
     };
-    let Legality::Legal = history::ask_legality(horizon, closed_upper, closed_lower, held) else {
+    if !closed_within(horizon, closed_upper, closed_lower) {
         return Verdict::BadState;
-    };
+    }
     if failed {
         return Verdict::AlreadyFailed;
     }
@@ -221,6 +212,20 @@ fn find_verdict(
     )
 }
 
+// Whether no closed figure up to the horizon is above the limit.
+fn closed_within(
+    horizon: usize,
+    closed_upper: &[u32; MAX_HORIZON],
+    closed_lower: &[u32; MAX_HORIZON],
+) -> bool
+    requires { ⌜ horizon ≤ maxHorizon ⌝ }
+    ensures { λ r. ⌜ Tells r (ClosedWithin horizon (now («closed_upper» .entry)) (now («closed_lower» .entry))) ⌝ }
+{
+    let upper: &[u32] = closed_upper;
+    let lower: &[u32] = closed_lower;
+    bounds::within_limit(&upper[..horizon]) & bounds::within_limit(&lower[..horizon])
+}
+
 // Judges by the figures as given; a tick that keeps them is lost where it does not keep the closed ones.
 fn rule(
     upper: &[u32],
@@ -236,11 +241,12 @@ fn rule(
         (verdictOn (viewWith (now (upper .entry)) (now (lower .entry)) (now (ticks .entry))) count)
         (verdictOn (viewWith (now («closed_upper» .entry)) (now («closed_lower» .entry)) (now (ticks .entry))) count)) ⌝ }
 {
-    let first = judge(upper, lower, ticks, count);
-    let Verdict::Passed = first else {
-        return first;
+    let given = judge(upper, lower, ticks, count);
+    let Verdict::Passed = given else {
+        return given;
     };
-    let Verdict::Passed = judge(closed_upper, closed_lower, ticks, count) else {
+    let closed = judge(closed_upper, closed_lower, ticks, count);
+    let Verdict::Passed = closed else {
         return Verdict::Lost;
     };
     Verdict::Passed
@@ -271,7 +277,7 @@ fn judge(upper: &[u32], lower: &[u32], ticks: &[u32], count: u32) -> Verdict
     verdict
 }
 
-// Puts a count that passed behind the held ticks, of which there is at most one fewer than the horizon; gives back how many are held.
+// Puts a count that passed behind the held ticks, one fewer than the horizon at most; else nothing changes. Gives back how many are held.
 fn hold(verdict: Verdict, ticks: &mut [u32], horizon: usize, held: usize, count: u32) -> usize
     requires { ⌜ HoldsWhere verdict horizon (now ticks) ⌝ }
     ensures { λ r. ⌜ Held verdict horizon held count (now (ticks .entry)) (now (ticks .exit)) r ⌝ }

@@ -100,7 +100,7 @@ pub fn generate_script(upper: &[u32], lower: &[u32], script: &mut [u32]) -> u32
     let opened = Generator::open(upper, lower);
     let opening = opened.opening;
     let state = opened.state;
-    let number = opening_number(opening);
+    let number = generator_opening_number(opening);
     if number == 0 {
         generate_all(state, script);
     }
@@ -134,7 +134,7 @@ fn sending_code(sending: Sending) -> u32
 }
 
 // The number of a refused opening of a generator; 0 where the state is ready.
-fn opening_number(opening: Opening) -> u32
+fn generator_opening_number(opening: Opening) -> u32
     ensures { λ r. ⌜ r ≡ replyNumber (openingReply opening) ⌝ }
 {
     match opening {

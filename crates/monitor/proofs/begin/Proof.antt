@@ -1,6 +1,6 @@
 -- `monitor::begin` meets its contract: in the first arm the opening is not refused, in the other it is.
 -- Assumes nothing.
-use Rattle.laws.proofs.Base.{sym, _∙_, needs}
+use Rattle.laws.proofs.Base.{_∙_, needs}
 use Rattle.monitor.proofs.Opening.{begun-opened, begun-zero}
 use Rattle.monitor.proofs.begin.Statement.{statement}
 use Rattle.monitor.proofs.begin.Tie as tie

@@ -13,7 +13,7 @@ use Rattle.scripts.proofs.generate_script.Tie as tie
 returns : tie.Need-returns
 returns c =
     let ran = c .before .before in
-    let number = ran .before .before .before .opening-number in
+    let number = ran .before .before .before .generator-opening-number in
     let told = ran .before .before .before .before .before .«open» in
     let args = ran .before .before .before .before .before .before .before .before .before .args in
     let p = pairOf (args .upper .now) (args .lower .now) in
@@ -25,7 +25,7 @@ returns c =
 
 returns-2 : tie.Need-returns-2
 returns-2 c =
-    let number = c .before .opening-number in
+    let number = c .before .generator-opening-number in
     let told = c .before .before .before .«open» in
     let args = c .before .before .before .before .before .before .before .args in
     let p = pairOf (args .upper .now) (args .lower .now) in

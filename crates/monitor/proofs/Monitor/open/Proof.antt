@@ -8,16 +8,15 @@ use Rattle.monitor.proofs.Monitor.open.Tie as tie
 
 returns : tie.Need-returns
 returns c =
-    let found = c .before .opening-for in
-    let start = c .before .before .before .«open» in
+    let start = c .before .before .«open» in
+    let found = c .before .before .before .opening-for in
     let close = c .before .before .before .before .before .before .close in
     let zeros = c .before .before .before .before .before .before .before .before .before in
     let args = zeros .before .before .before .before .args in
     let p : Pair = pairOf (args .upper .now) (args .lower .now) in
     let closes = in-room p _ _ _ (zeros .before .zeros .ensures) (zeros .zeros2 .ensures) (close .ensures) in
     let answer =
-    answers p (found .result) (start .result .opening) (close .result) (found .ensures) (start .ensures .answer)
-    (ap (λ a. a .number) closes) in
+    answers p (found .result) (close .result) (found .ensures) (ap (λ a. a .number) closes) in
     record {
       answer = answer;
       state =
