@@ -19,6 +19,7 @@ mod Walkable
 pub mod Bound
 pub mod Arrival
 pub mod Closure
+pub mod Filled
 pub mod Asked
 pub mod Computed
 mod Examples

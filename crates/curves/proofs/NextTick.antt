@@ -17,13 +17,18 @@ pub last-none : (xs : List ℕ) → last xs 0 ≡ 0
 unfolding sum
 last-none xs = refl
 
+-- The last d = a + b ticks are a window of a ticks and the last b.
+pub last-parts : (xs : List ℕ) (a b d : ℕ) → a + b ≡ d → d ≤ length xs → last xs d ≡ sum (countsOf xs) (length xs - d) a + last xs b
+last-parts xs a b d e h =
+    let e′ : length xs - d + a ≡ length xs - b = omega arith in
+    rw e′ at (split-at (countsOf xs) (length xs - d) a b d e)
+
 -- The last d + 1 ticks are the one before the last d, and these.
 pub last-more : (xs : List ℕ) (d : ℕ) → d < length xs → last xs (suc d) ≡ last xs d + getD xs (length xs - 1 - d) 0
 unfolding sum
 last-more xs d h =
     let i : length xs - suc d + 0 ≡ length xs - 1 - d = omega arith in
-    let j : length xs - suc d + 1 ≡ length xs - d = omega arith in
-    omega (arith, rw (i, j) at (split-at (countsOf xs) (length xs - suc d) 1 d (suc d) (omega arith)))
+    omega (arith, rw i at (last-parts xs 1 d (suc d) (omega arith) h))
 
 module _ (xs : List ℕ) (x : ℕ) where
   pub length-then : length (then xs x) ≡ suc (length xs)
@@ -161,12 +166,10 @@ module _ (p : Pair) (C : Closed p) (xs : List ℕ) (c : Conforms p xs) where
   within i zero v w = omega arith
   within i (suc d) v w = let h : Inside p (suc d) (sum (countsOf xs) i (suc d)) = c i (suc d) (omega arith) v w in omega arith
 
-  -- The last d = a + b ticks are a window of a ticks and the last b.
+  -- How far the last d = a + b ticks can stand above the last b.
   last-split : (a b d : ℕ) → a + b ≡ d → d ≤ horizon p → d ≤ length xs
       → (lowerAt p a + last xs b ≤ last xs d) × (last xs d ≤ upperAt p a + last xs b)
-  last-split a b d e v h =
-      let e′ : length xs - d + a ≡ length xs - b = omega arith in
-      omega (arith, rw e′ at (split-at (countsOf xs) (length xs - d) a b d e), within (length xs - d) a (omega arith) (omega arith))
+  last-split a b d e v h = omega (arith, last-parts xs a b d e h, within (length xs - d) a (omega arith) (omega arith))
 
   -- By the window that one of the two lengths has more than the other, and the edge between them.
   pairwise : (d e : ℕ) → 1 ≤ d → d ≤ judged p xs → 1 ≤ e → e ≤ judged p xs → lowerAt p d + last xs (e - 1) ≤ upperAt p e + last xs (d - 1)

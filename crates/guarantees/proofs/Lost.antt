@@ -1,5 +1,5 @@
 -- Request P2: an opened monitor passes the extendable streams, and 'lost' is what it says of the others that conform. Assumes nothing.
-use Rattle.laws.proofs.Base.{ℕ, _≡_, refl, sym, ap, _∙_, List, [], _↔_, ⊎-elim, arith}
+use Rattle.laws.proofs.Base.{ℕ, _≡_, refl, sym, ap, _∙_, List, [], _↔_, ⊎-elim, decLt, arith, length}
 use mathlib.Core.Logic.{Iff·trans, Iff·symm, Iff·and, Iff·not}
 use Rattle.laws.specs.Tests.{Each}
 use Rattle.curves.specs.Streams.{Stream}
@@ -10,6 +10,7 @@ use Rattle.curves.specs.Questions.{AllYes, refusal}
 use Rattle.curves.specs.Theorems.{Closes}
 use Rattle.curves.proofs.Asked.{no-refusal}
 use Rattle.curves.proofs.Closure.{closure-streams, causal-takes-no-round}
+use Rattle.curves.proofs.Filled.{closure-filled}
 use Rattle.curves.proofs.Extension.{start-conforms}
 use Rattle.curves.proofs.NextTick.{conforms-keeps, keeps-conforms}
 use Rattle.bounds.specs.Bounds.{pairQuestions}
@@ -24,7 +25,8 @@ use Rattle.monitor.proofs.Opening.{room-passes, opening-yes, opening-fifth, ope
 use Rattle.guarantees.specs.Exact.{LegalUnfailed, Answers, JudgedOutside, Opens, AllPass, RightOfWholeStream}
 use Rattle.guarantees.specs.Exact.{NothingPassesAfter}
 use Rattle.guarantees.specs.Lost.{MonitorRefusedIffNoStream, AllPassIffExtendable, LostIffNotExtendable, MonitorOpensOnClosure}
-use Rattle.guarantees.specs.Lost.{PassedIffExtendable, OutsideIffNotConforming, NeverLostOnClosure, SendsIffPassesOnClosure}
+use Rattle.guarantees.specs.Lost.{PassedIffExtendable, OutsideIffNotConforming, LostBeforeHorizon, NeverLostOnClosure}
+use Rattle.guarantees.specs.Lost.{SendsIffPassesOnClosure}
 use Rattle.guarantees.proofs.Rulings.{RightRuling, outside-iff, neither-iff}
 use Rattle.guarantees.proofs.Generating.{sends-iff-neither}
 use Rattle.guarantees.proofs.Monitoring.{NotLost, after, start, legal, keeps-whole, right-of-all, pass-iff, after-passing}
@@ -136,6 +138,18 @@ passed-iff-extendable p o xs es x = next-passed p o xs es x
 
 pub outside-iff-not-conforming : OutsideIffNotConforming
 outside-iff-not-conforming p o xs es x = next-outside p o xs es x
+
+-- With as many ticks there as the horizon, what conforms to the pair would conform to the closure.
+pub lost-before-horizon : LostBeforeHorizon
+lost-before-horizon p o xs es x e =
+    let (c, n) = next-lost p o xs es x .0 e in
+    elim (decLt (length (then xs x)) (horizon p)) [
+      | yes h ↦ h
+      | no h ↦
+          let k : Conforms (q p o) xs = extendable-iff p o xs .1 (passes-iff p o xs .0 es) in
+          absurd (n (extendable-iff p o (then xs x) .0
+          (closure-filled p (q p o) _ (arrived p room (g p o)) xs x k c (omega arith))))
+    ]
 
 pub right-of-whole-stream : RightOfWholeStream
 right-of-whole-stream p o xs es x d =

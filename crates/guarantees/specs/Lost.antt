@@ -1,11 +1,12 @@
 -- Request P2: what the monitor's opening, 'lost' and 'passed' say of streams, whatever it computes them by.
-use Prim.Native.Nat.{ℕ, _≤_}
+use Prim.Native.Nat.{ℕ, _≤_, _<_}
 use mathlib.Core.Path.{_≡_}
 use mathlib.Core.List.{List}
 use mathlib.Core.Logic.{_↔_}
+use lib.ListN.{length}
 use Rattle.laws.specs.Tests.{Each}
 use Rattle.curves.specs.Streams.{countLimit, Stream}
-use Rattle.curves.specs.Pairs.{Pair}
+use Rattle.curves.specs.Pairs.{Pair, horizon}
 use Rattle.curves.specs.Conformance.{Conforms, Conforms∞, Extendable}
 use Rattle.curves.specs.Ticks.{then, passed}
 use Rattle.curves.specs.Questions.{AllYes, result, refusal}
@@ -44,6 +45,12 @@ abbrev pub OutsideIffNotConforming : Type 0
 OutsideIffNotConforming =
     (p : Pair) → Opens p → (xs : List ℕ) → AllPass p xs → (x : ℕ)
     → JudgedOutside (afterTicks (freshMonitor p) xs) x ↔ (¬ Conforms p (then xs x))
+
+-- 'Lost' comes while the stream, the lost tick included, has fewer ticks than the horizon, or not at all.
+abbrev pub LostBeforeHorizon : Type 0
+LostBeforeHorizon =
+    (p : Pair) → Opens p → (xs : List ℕ) → AllPass p xs → (x : ℕ) → Answers (afterTicks (freshMonitor p) xs) x lost
+    → length (then xs x) < horizon p
 
 -- A monitor opens on every closure, and then never answers 'lost', whatever it is fed.
 abbrev pub MonitorOpensOnClosure : Type 0
