@@ -66,8 +66,9 @@ size_t calgedze_report(const uint8_t *text, size_t text_length, uint8_t *output,
  */
 
 /*
- * What a monitor answers to a count. The two that name a window are this plus the window. A count is lost where every window keeps its
- * figures, and no unbounded stream that conforms begins like this; on the curves of a closure that never happens.
+ * What a monitor answers to a count. The two that name a window are this plus the window. At CALGEDZE_LOST every window that ends there
+ * keeps its figures as given, and yet no unbounded conforming stream begins like this: the stream is lost, not a message. On the curves of
+ * a closure that never happens. After the first entry that is not CALGEDZE_PASSED every later one is CALGEDZE_ALREADY_FAILED.
  */
 #define CALGEDZE_PASSED 0u
 #define CALGEDZE_TOO_MANY 1000u

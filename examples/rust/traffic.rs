@@ -139,8 +139,9 @@ fn verdict(entry: u32) -> Verdict {
         0 => Verdict::Passed,
         1_001..=1_256 => Verdict::TooMany(entry - 1_000),
         2_001..=2_256 => Verdict::TooFew(entry - 2_000),
+        3_000 => Verdict::AlreadyFailed,
         4_000 => Verdict::Lost,
-        _ => Verdict::AlreadyFailed,
+        _ => unreachable!("no other answer of a monitor comes up in a script"),
     }
 }
 

@@ -139,6 +139,26 @@ fn reading() -> Case {
     }
 }
 
+/// Streams that a monitor rejects, one for each verdict that is no pass: on the ceilings 5, 3 and the leasts 0, 2 one tick has 3 at most.
+pub fn rejected() -> Vec<Case> {
+    let streams: [(&str, &[u32]); 4] = [
+        ("monitor, too many in 1", &[1, 2, 6, 0]),
+        ("monitor, too many in 2", &[3, 1, 0]),
+        ("monitor, too few", &[0, 1, 2]),
+        ("monitor, lost", &[4, 0]),
+    ];
+    let case = |(name, counts): (&'static str, &[u32])| Case {
+        name,
+        calls: counts.len(),
+        run: judge,
+        upper: vec![5, 3],
+        lower: vec![0, 2],
+        script: counts.to_vec(),
+        text: Vec::new(),
+    };
+    streams.into_iter().map(case).collect()
+}
+
 pub fn all() -> Vec<Case> {
     vec![
         closing_nine_rounds(),

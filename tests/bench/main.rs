@@ -69,9 +69,10 @@ fn run(repetitions: u32) -> Result<(), String> {
     Ok(())
 }
 
-/// The results alone, of all contenders on all cases.
+/// The results alone, of all contenders on all cases, and on those that are too short to time.
 fn compare() -> Result<(), String> {
-    let (cases, contenders) = (cases::all(), contender::all());
+    let contenders = contender::all();
+    let cases: Vec<Case> = cases::all().into_iter().chain(cases::rejected()).collect();
     cases.iter().try_for_each(|case| check(case, &contenders))?;
     println!("bench: {} cases, all contenders agree", cases.len());
     Ok(())

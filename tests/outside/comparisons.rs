@@ -15,7 +15,7 @@ pub struct Comparison {
     pub one: fn(&dyn Subject, &mut Rng, &mut Tally) -> Result<(), String>,
 }
 
-/// The comparison that uses no expected figures at all.
+/// The comparison by which mutants are judged alone too: it uses no expected figures.
 pub const PROMISES: &str = "promises of closures";
 
 pub const COMPARISONS: &[Comparison] = &[

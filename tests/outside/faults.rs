@@ -1,7 +1,9 @@
 //! The mutants: one plain implementation with one fault each. Some faults are shown by no call over the boundary, as no state crosses it:
 //! a tick that is held though it was rejected, as a failed monitor answers 'already failed' whatever it holds; the order of 'too many' and
-//! 'too few', as no tick after one that passed is both; and what is asked of a state. These are told apart on the states that the program
-//! `limits` is given, where the state that comes back is compared too. Two faults are not among the mutants, since nothing shows them:
+//! 'too few', as no tick after one that passed is both; by which closed figures a tick is lost once the horizon is filled, or in a state
+//! that no opening made; and what is asked of a state. These are told apart on the states that the program `limits` is given, where the
+//! mark and the held ticks that come back are compared too. To judge by the given figures twice is, from outside, never to find a tick
+//! lost. Two faults are not among the mutants, since nothing shows them:
 //!
 //! - A difference cut off at 0, in a round. U d and L d are the old figures, which do not cross, so none is below 0 or above the limit.
 //!   For a least it changes nothing, as no old least is below 0. For a ceiling: where U (d + t) - L t is below 0, the new ceiling of t is
@@ -96,6 +98,8 @@ pub enum Fault {
     LostWhileFillingOnly,
     LostByClosingAnew,
     ClosedNotLimited,
+    ClosedLowerNotLimited,
+    ClosedPastHorizonLimited,
     // Generator.
     SendsZeroForNoCount,
     HoldsForNoCount,
@@ -222,6 +226,11 @@ pub const MUTANTS: &[(Fault, &str)] = &[
     (LostWhileFillingOnly, "lost: never once the horizon is filled"),
     (LostByClosingAnew, "lost: by the given figures closed anew"),
     (ClosedNotLimited, "lost: closed figures above the limit taken"),
+    (ClosedLowerNotLimited, "lost: closed leasts above the limit taken"),
+    (
+        ClosedPastHorizonLimited,
+        "lost: closed figures past the horizon held against the limit",
+    ),
     (SendsZeroForNoCount, "generator: sends 0 where there is no count"),
     (HoldsForNoCount, "generator: a tick held where there is no count"),
     (AlwaysNoCount, "generator: 13 always"),

@@ -177,9 +177,19 @@ impl Faulty {
         0
     }
 
+    fn closed_over_limit(&self, state: &State) -> bool {
+        let over = |pair: &Pair| self.over_limit(&pair.upper, &pair.lower);
+        match self.fault {
+            ClosedNotLimited => false,
+            ClosedLowerNotLimited => self.over_limit(&state.closed().upper, &[]),
+            ClosedPastHorizonLimited => over(state.whole_closed()),
+            _ => over(&state.closed()),
+        }
+    }
+
     fn is_bad(&self, state: &State) -> bool {
         let over = |pair: Pair| self.over_limit(&pair.upper, &pair.lower);
-        !state.has_sizes() || over(state.given()) || (over(state.closed()) && !self.has(ClosedNotLimited))
+        !state.has_sizes() || over(state.given()) || self.closed_over_limit(state)
     }
 
     /// A tick on a state built by hand.

@@ -2,7 +2,7 @@
 //! itself says it for the first tick after which the stream conforms to the pair and begins no unbounded stream that does; what is asked
 //! is the search over continuations, and no closed figure.
 //!
-//! Nothing is lost once there are H ticks. Take a tick up to which the stream keeps the closure and with which it keeps the pair, and the
+//! Nothing is lost once there are H ticks. Take a tick before which the stream keeps the closure and with which it keeps the pair, and the
 //! shortest window, of d ticks, that breaks its closed ceiling there. That is lower than the one given, so it is the cost of a walk of
 //! two steps or more (`paths`), of which one goes up by an a other than d; and steps may be taken in any order. Where a is below d, the
 //! closed ceiling of d is U a and the closed one of d - a: the first a ticks of the window keep the former, and the rest the latter, as

@@ -103,6 +103,11 @@ impl State {
         1 <= self.horizon && self.horizon <= LONGEST_HORIZON as u64 && self.held < self.horizon
     }
 
+    /// The closed figures past the horizon too.
+    pub fn whole_closed(&self) -> &Pair {
+        &self.closed
+    }
+
     pub fn given(&self) -> Pair {
         self.up_to_horizon(&self.given)
     }

@@ -1,4 +1,4 @@
--- Request P2: what the monitor's opening, 'lost' and 'passed' say of streams, whatever it computes them by.
+-- Request P2: what the monitor's opening and its answers to ticks say of streams, whatever it computes them by.
 use Prim.Native.Nat.{ℕ, _≤_, _<_}
 use mathlib.Core.Path.{_≡_}
 use mathlib.Core.List.{List}
@@ -34,7 +34,7 @@ LostIffNotExtendable =
     (p : Pair) → Opens p → (xs : List ℕ) → AllPass p xs → (x : ℕ)
     → Answers (afterTicks (freshMonitor p) xs) x lost ↔ (Conforms p (then xs x) × (¬ Extendable p (then xs x)))
 
--- The other two answers cut the streams likewise: it passes exactly when the stream with it begins such an unbounded one, and is 'too many'
+-- The other answers cut the streams likewise: it passes exactly when the stream with it begins such an unbounded one, and is 'too many'
 -- or 'too few' exactly when the stream with it does not conform.
 abbrev pub PassedIffExtendable : Type 0
 PassedIffExtendable =

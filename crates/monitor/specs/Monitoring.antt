@@ -1,4 +1,4 @@
--- A tick of the monitor, document 01's line monitor ("Monitor and maker"), with request P2's verdict 'lost'.
+-- A tick of the monitor, document 01's line monitor ("Monitor and maker"), with request P2's answer 'lost'.
 use Prim.Native.Nat.{ℕ}
 use mathlib.Core.Path.{_≡_}
 use mathlib.Core.Bool.{Bool, true, false, cond}
@@ -13,8 +13,8 @@ use Rattle.history.specs.declared.History.{History}
 use Rattle.history.specs.States.{View, entries, viewOf, added, Legal, legal?}
 use Rattle.monitor.specs.declared.Monitor.{Monitor}
 
--- The view of a monitor's state: that of its history, with the pair as given; the closed figures, in a state up to the same horizon; and
--- whether it has failed.
+-- The view of a monitor's state: that of its history, with the pair as given; the closed figures, which in a state reach to the same
+-- horizon; and whether it has failed.
 pub record MonitorView : Type 0 where
   pub view : View
   pub closed : Pair

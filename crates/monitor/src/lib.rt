@@ -30,7 +30,7 @@ pub struct Monitor {
     pub failed: bool,
 }
 
-// What opening a monitor answers: the state is ready, or document 01's question is answered no.
+// What opening a monitor answers: the state is ready, or one of document 01's questions is the first that is answered no.
 pub enum MonitorOpening {
     Opened,
     // 1: the upper list is not 1 to 256 long.
