@@ -63,6 +63,7 @@ module _ (p : Pair) where
       let wide = length-replicate {A = ℕ} maxHorizon 0 in
       (ys .0, (ys .1 .0, ((omega (arith, wide, ys .0 .1), omega (arith, wide, ys .0 .1)), (ys .1 .1 .0, tt))))
 
+  -- Its first no is the opening's: 3 is answered yes.
   same-no : (n : ℕ) → FirstNo (closingQuestions p room) n → FirstNo (monitorQuestions p) n
   same-no n (inl a) = inl a
   same-no n (inr (y, inl a)) = inr (y, inl a)

@@ -2,40 +2,33 @@
 -- Assumes nothing.
 use Rattle.laws.proofs.Base.{ℕ, _≡_, refl, sym, ap, _∙_, Bool, true, false, List, _≤_, arith}
 use Rattle.curves.specs.Ticks.{then, Judged, Verdict, tooMany, tooFew, Right}
-use Rattle.curves.specs.Questions.{Reply, result, refusal}
-use Rattle.curves.proofs.Asked.{no-refusal}
-use Rattle.bounds.specs.Bounds.{maxHorizon}
-use Rattle.history.specs.declared.Opening.{Opening}
-use Rattle.history.specs.declared.Opening.the-variants as opening
-use Rattle.history.specs.Answers.{openingReply}
-use Rattle.monitor.specs.declared.MonitorOpening.{MonitorOpening}
-use Rattle.monitor.specs.declared.MonitorOpening.the-variants as opening′
+use Rattle.curves.specs.Pairs.{Pair}
+use Rattle.curves.specs.Questions.{Question, AllYes, Reply, result, refusal, replyTo}
+use Rattle.curves.proofs.Asked.{Positive, positive, refusal-iff}
+use Rattle.bounds.specs.Bounds.{maxHorizon, pairQuestions, asking}
+use Rattle.history.specs.Opening.{opening}
 use Rattle.monitor.specs.declared.Verdict as declared
 use Rattle.monitor.specs.declared.Verdict.the-variants.{Passed, TooMany, TooFew, Lost, AlreadyFailed, BadState}
 use Rattle.monitor.specs.Monitoring.{MonitorView, judged, judging}
-use Rattle.monitor.specs.Answers.{monitorOpeningReply, verdictReply}
+use Rattle.monitor.specs.Opening.{monitorQuestions, monitorOpening}
+use Rattle.monitor.specs.Answers.{verdictReply}
 use Rattle.monitor.proofs.Said.{judging-legal, judging-failed, ruling-right}
 use Rattle.scripts.specs.Codes.{replyNumber}
 use Rattle.scripts.specs.Scripts.{scriptAnswer, afterOpening}
 use Rattle.scripts.specs.Steps.{NamesWindow}
 
 -- ---- opening
--- No refusal has the number 0.
-other-number : (n : ℕ) → ¬ (n ≡ 0) → ¬ (_≡_ {A = Reply (Unit {0})} (refusal n) (refusal 0))
-other-number n z e = z cc
+-- No refusal has the number 0, as no question has.
+numbered : (qs : List Question) (y : AllYes qs → Unit {0}) → Positive qs → ¬ (replyTo qs y ≡ refusal 0)
+numbered qs y h e = omega (arith, positive qs h 0 (refusal-iff qs y 0 .0 e))
 
-pub opening-numbered : (o : Opening) (a : Reply (Unit {0})) → openingReply o ≡ a → ¬ (a ≡ refusal 0)
-opening-numbered opening.Opened a e f = no-refusal tt 0 (e ∙ f)
-opening-numbered opening.UpperLength a e f = other-number 1 (λ z. omega arith) (e ∙ f)
-opening-numbered opening.LowerLength a e f = other-number 2 (λ z. omega arith) (e ∙ f)
-opening-numbered opening.FigureLimit a e f = other-number 4 (λ z. omega arith) (e ∙ f)
+pub opening-numbered : (p : Pair) → ¬ (opening p ≡ refusal 0)
+unfolding asking
+opening-numbered p = numbered (pairQuestions p) _ (omega arith, (omega arith, (omega arith, tt)))
 
-pub monitor-opening-numbered : (o : MonitorOpening) (a : Reply (Unit {0})) → monitorOpeningReply o ≡ a → ¬ (a ≡ refusal 0)
-monitor-opening-numbered opening′.Opened a e f = no-refusal tt 0 (e ∙ f)
-monitor-opening-numbered opening′.UpperLength a e f = other-number 1 (λ z. omega arith) (e ∙ f)
-monitor-opening-numbered opening′.LowerLength a e f = other-number 2 (λ z. omega arith) (e ∙ f)
-monitor-opening-numbered opening′.FigureLimit a e f = other-number 4 (λ z. omega arith) (e ∙ f)
-monitor-opening-numbered opening′.NoClosure a e f = other-number 5 (λ z. omega arith) (e ∙ f)
+pub monitor-opening-numbered : (p : Pair) → ¬ (monitorOpening p ≡ refusal 0)
+unfolding monitorOpening
+monitor-opening-numbered p = numbered (monitorQuestions p) _ (omega arith, (omega arith, (omega arith, (omega arith, tt))))
 
 module _ (r : ℕ) where
   -- The state is fresh, and what it answers goes into the script; or the script stays as found.

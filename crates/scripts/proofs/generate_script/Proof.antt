@@ -18,7 +18,7 @@ returns c =
     let args = ran .before .before .before .before .before .before .before .before .before .args in
     let p = pairOf (args .upper .now) (args .lower .now) in
     let history = told .result .state .history in
-    run-opened _ _ (opening-numbered (told .result .opening) _ (told .ensures .answer))
+    run-opened _ _ (opening-numbered p)
     (number .ensures ∙ ap replyNumber (told .ensures .answer)) (ran .before .before .if1 .taken)
     (viewOf history) (fresh p) (λ e. subst (λ a. Begun a p history) e (told .ensures .history))
     (λ v. map sendingCode (sendings v (args .script .now))) (args .script .now) _ (ran .generate-all .ensures)

@@ -17,7 +17,7 @@ returns c =
     let told = ran .before .before .before .before .before .«open» in
     let args = ran .before .before .before .before .before .before .before .before .before .args in
     let p = pairOf (args .upper .now) (args .lower .now) in
-    run-opened _ _ (monitor-opening-numbered (told .result .opening) _ (told .ensures .answer))
+    run-opened _ _ (monitor-opening-numbered p)
     (number .ensures ∙ ap replyNumber (told .ensures .answer)) (ran .before .before .if1 .taken)
     (monitorViewOf (told .result .state)) (freshMonitor p)
     (λ e. subst (λ a. MonitorBegun a p (told .result .state)) e (told .ensures .state))
