@@ -5,9 +5,11 @@ use mathlib.Core.List.{List, [], _∷_, _++_}
 use lib.ListN.{drop}
 use Rattle.laws.specs.Ranges.{table}
 use Rattle.curves.specs.Pairs.{Pair, horizon, upperAt, lowerAt}
+use Rattle.curves.specs.Rounds.{Causal}
 use Rattle.curves.specs.Questions.{Question, answerTo}
 use Rattle.curves.specs.Theorems.{Closes}
 use Rattle.curves.proofs.Arrival.{closes?}
+use Rattle.curves.proofs.Closure.{causal?}
 use Rattle.bounds.specs.Bounds.{question1, question2, question4, RoomFor, roomFor?}
 
 -- 3. Each result list has room for the closure.
@@ -17,6 +19,10 @@ question3 p found = record { number = 3; asked = RoomFor (horizon p) found; answ
 -- 5. The rounds arrive at a closure. They do or they do not (`ArrivesOrCrosses`).
 abbrev pub question5 : Pair → Question
 question5 p = record { number = 5; asked = Closes p; answered = closes? p }
+
+-- 15, for operations on a pair that must be closed already (request P3): it is its own closure.
+abbrev pub question15 : Pair → Question
+question15 p = record { number = 15; asked = Causal p; answered = causal? p }
 
 abbrev pub closingQuestions : Pair → Pair → List Question
 closingQuestions p found = question1 p ∷ question2 p ∷ question3 p found ∷ question4 p ∷ question5 p ∷ []

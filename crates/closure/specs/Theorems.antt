@@ -3,13 +3,13 @@ use Prim.Native.Nat.{ℕ, _≤_}
 use mathlib.Core.Path.{_≡_}
 use mathlib.Core.List.{List, [], _∷_}
 use mathlib.Core.Logic.{_↔_, _⊎_}
-use lib.ListN.{length}
+use lib.ListN.{length, replicate}
 use Rattle.curves.specs.Streams.{Stream, sum}
-use Rattle.curves.specs.Pairs.{Pair, horizon, first, upperAt, lowerAt, Equal}
+use Rattle.curves.specs.Pairs.{Pair, pairOf, horizon, first, upperAt, lowerAt, Equal}
 use Rattle.curves.specs.Conformance.{Conforms, Conforms∞, Extendable, MetIn}
 use Rattle.curves.specs.Rounds.{whole, Arrives, Causal}
 use Rattle.curves.specs.Questions.{AllYes, FirstNo}
-use Rattle.bounds.specs.Bounds.{question1, question2, question4, pairQuestions}
+use Rattle.bounds.specs.Bounds.{maxHorizon, question1, question2, question4, pairQuestions}
 use Rattle.closure.specs.Closing.{question3, closingQuestions, refusedClosing, givenClosing, closing}
 
 -- The lists pass questions 1 to 4: those of the pair p, with result lists found to hold `found`.
@@ -22,6 +22,10 @@ GivesClosure p found = closing p found .number ≡ 0
 
 abbrev pub closureOf : Pair → Pair → Pair
 closureOf p found = first (horizon p) (closing p found .results)
+
+-- Result lists with room for the closure of every horizon. What they hold has no effect.
+abbrev pub room : Pair
+room = pairOf (replicate maxHorizon 0) (replicate maxHorizon 0)
 
 -- ---- Demand 2, its last sentence. What the rounds arrive at is given, with their count; and what is given, they arrive at.
 abbrev pub GivesWhatArrives : Type 0

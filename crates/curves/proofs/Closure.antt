@@ -1,16 +1,18 @@
 -- What a closure is worth, for a pair p whose rounds arrive at q: q is causal, has the streams of p, and its conforming starts are theirs.
 -- Assumes nothing.
-use Rattle.laws.proofs.Base.{ℕ, _≤_, _≡_, sym, _∙_, List, _↔_, arith}
+use Rattle.laws.proofs.Base.{ℕ, _≤_, _≡_, sym, _∙_, List, _↔_, ⊎-elim, arith}
 use lib.IntN.{pos}
 use Rattle.curves.specs.Streams.{sum, Begins}
 use Rattle.curves.specs.Pairs.{horizon, Pair, upperAt, lowerAt, Equal}
 use Rattle.curves.specs.Conformance.{Conforms, Conforms∞}
 use Rattle.curves.specs.Ticks.{then, Range}
-use Rattle.curves.specs.Rounds.{whole, figuresOf, after, Arrives}
+use Rattle.curves.specs.Rounds.{whole, cutOff, figuresOf, round, after, Arrives, Causal}
 use Rattle.curves.specs.Theorems.{ClosureIsCausal, CausalIffOwnClosure, CausalTakesNoRound, OneMoreTick}
 use Rattle.curves.proofs.Figures.{given-full, same-refl, full-same, after-full, given-same, given-horizon, after-horizon}
+use Rattle.curves.proofs.Figures.{round-horizon}
+use Rattle.curves.proofs.Agreement.{cut-off-arrives}
 use Rattle.curves.proofs.Kept.{rounds-keep-streams}
-use Rattle.curves.proofs.Arrival.{runs-none}
+use Rattle.curves.proofs.Arrival.{runs-none, crossed?, equal?, arrives-once}
 use Rattle.curves.proofs.Closed.{Closed, closed}
 use Rattle.curves.proofs.Extension.{extends, start-conforms}
 use Rattle.curves.proofs.Followed.{Followed, followed-upper, followed-lower}
@@ -29,6 +31,29 @@ causal-takes-no-round p c =
 
 pub causal-iff-own-closure : CausalIffOwnClosure
 causal-iff-own-closure p = ((λ c. (0, causal-takes-no-round p c)), (λ a. closure-is-causal p p (a .0) (a .1)))
+
+-- Where the rounds arrive, the pair is causal exactly when none changed a figure.
+pub causal-iff-no-round : (p q : Pair) (n : ℕ) → Arrives whole p n q → Causal p ↔ (n ≡ 0)
+unfolding after
+causal-iff-no-round p q n a = (
+  (λ c. arrives-once p q p n 0 a (causal-takes-no-round p c) .0),
+  λ e. let b : Arrives whole p 0 q = rw e at a in record { uncrossed = b .uncrossed; settled = b .settled },
+)
+
+-- Whether a pair is causal can be told, by one round with differences cut off at 0.
+unfoldable pub causal? : (p : Pair) → Dec (Causal p)
+unfolding after
+causal? p =
+    let own : Causal p → Arrives cutOff p 0 p = λ k. cut-off-arrives p 0 p .0 (causal-takes-no-round p k) in
+    let c : Pair = figuresOf cutOff p in
+    ⊎-elim
+    (λ un. ⊎-elim
+    (λ s. yes (closure-is-causal p p 0 (cut-off-arrives p 0 p .1
+    (record { runs = runs-none cutOff p; uncrossed = un; settled = s; figures = same-refl 0 c }))))
+    (λ ns. no (λ k. ns (own k .settled)))
+    (equal? (round cutOff c) c (round-horizon cutOff c)))
+    (λ x. no (λ k. own k .uncrossed x))
+    (crossed? c)
 
 -- ---- one more tick
 pub one-more-tick : OneMoreTick

@@ -3,18 +3,18 @@ use Prim.Native.Nat.{ℕ}
 use mathlib.Core.Path.{_≡_}
 use Rattle.curves.specs.Pairs.{Pair}
 use Rattle.history.specs.States.{viewOf}
-use Rattle.history.specs.Opening.{opening, Begun}
-use Rattle.history.specs.Answers.{openingReply}
+use Rattle.history.specs.Opening.{Begun}
 use Rattle.generator.specs.declared.Generator.{Generator}
 use Rattle.generator.specs.declared.OpenedGenerator.{OpenedGenerator}
 use Rattle.generator.specs.declared.Admissible.{Admissible}
 use Rattle.generator.specs.declared.Sent.{Sent}
 use Rattle.generator.specs.Generating.{ranging, sending, GeneratorNext}
-use Rattle.generator.specs.Answers.{rangeReply, sendingReply}
+use Rattle.generator.specs.Opening.{generatorOpening}
+use Rattle.generator.specs.Answers.{generatorOpeningReply, rangeReply, sendingReply}
 
 pub record GeneratorOpened (p : Pair) (r : OpenedGenerator) : Type 0 where
-  pub answer : openingReply (r .opening) ≡ opening p
-  pub history : Begun (opening p) p (r .state .history)
+  pub answer : generatorOpeningReply (r .opening) ≡ generatorOpening p
+  pub history : Begun (generatorOpening p) p (r .state .history)
 
 pub record GeneratorTicked (g : Generator) (choice : ℕ) (r : Sent) : Type 0 where
   pub answer : sendingReply (r .sending) ≡ sending (viewOf (g .history)) choice

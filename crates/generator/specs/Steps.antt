@@ -1,16 +1,42 @@
 -- What the private functions of this crate promise each other. No public promise cites anything of it.
-use Prim.Native.Nat.{ℕ, suc, _-_, _≤_, _<_}
+use Prim.Native.Nat.{ℕ, zero, suc, _-_, _≤_, _<_}
 use mathlib.Core.Path.{_≡_}
 use mathlib.Core.Logic.{_↔_}
 use Rattle.curves.specs.Ticks.{then, Keeps}
 use Rattle.bounds.specs.Bounds.{figureLimit}
+use Rattle.closure.specs.declared.Closing.{Closing}
+use Rattle.closure.specs.declared.Closing.the-variants as closing
+use Rattle.history.specs.declared.History.{History}
 use Rattle.history.specs.States.{View, Legal}
+use Rattle.history.specs.Opening.{zeroHistory}
+use Rattle.generator.specs.declared.GeneratorOpening.{GeneratorOpening}
+use Rattle.generator.specs.declared.GeneratorOpening.the-variants as opening
 use Rattle.generator.specs.declared.Admissible.{Admissible}
 use Rattle.generator.specs.declared.Admissible.the-variants as admissible
 use Rattle.generator.specs.declared.Sending.{Sending}
 use Rattle.generator.specs.declared.Sending.the-variants as sending
 use Rattle.generator.specs.declared.Limits.{Limits}
 
+-- ---- an opening
+-- What it answers to what closing answered: ready after no round. With room for every horizon closing is not refused with 3.
+abbrev pub generatorOpeningFor : Closing → GeneratorOpening
+generatorOpeningFor (closing.Closed zero) = opening.Opened
+generatorOpeningFor (closing.Closed (suc n)) = opening.NotClosed
+generatorOpeningFor closing.UpperLength = opening.UpperLength
+generatorOpeningFor closing.LowerLength = opening.LowerLength
+generatorOpeningFor closing.ResultLength = opening.NotClosed
+generatorOpeningFor closing.FigureLimit = opening.FigureLimit
+generatorOpeningFor closing.NoClosure = opening.NotClosed
+
+-- The history that is handed out.
+abbrev pub begunAs : GeneratorOpening → History → History
+begunAs opening.Opened h = h
+begunAs opening.UpperLength h = zeroHistory
+begunAs opening.LowerLength h = zeroHistory
+begunAs opening.FigureLimit h = zeroHistory
+begunAs opening.NotClosed h = zeroHistory
+
+-- ---- a tick
 -- The state's form matters where a count is sent.
 abbrev pub AddsSent : Sending → View → Type 0
 AddsSent (sending.Sent x) v = Legal v

@@ -1,24 +1,39 @@
 // The generator (document 01's maker): sends, tick after tick, a count that keeps every window that ends there.
 
+use closure::Closing;
 use history::History;
 use history::Legality;
-use history::Opening;
 ghost use mathlib.Core.Path.{_≡_};
 ghost use Prim.Native.Nat.{min, max, _-_};
 ghost use Rattle.curves.specs.Pairs.{pairOf};
 ghost use Rattle.history.specs.States.{viewOf, added, Legal};
 ghost use Rattle.history.specs.Steps.{Slices, viewWith};
 ghost use Rattle.generator.specs.Generating.{sentFrom, GeneratorNext};
-ghost use Rattle.generator.specs.Answers.{rangeReply, sendingReply};
+ghost use Rattle.generator.specs.Opening.{generatorOpening};
+ghost use Rattle.generator.specs.Answers.{generatorOpeningReply, rangeReply, sendingReply};
 ghost use Rattle.generator.specs.Promises.{GeneratorOpened, GeneratorTicked, GeneratorRanged};
-ghost use Rattle.generator.specs.Steps.{Limited, Small, Shows, ChoosesWhere, AddsSent};
+ghost use Rattle.generator.specs.Steps.{generatorOpeningFor, begunAs, Limited, Small, Shows, ChoosesWhere, AddsSent};
 
+// Anyone may build one.
 pub struct Generator {
     pub history: History,
 }
 
+// What opening a generator answers: the state is ready, or one of document 01's questions, or request P3's, is the first that is answered no.
+pub enum GeneratorOpening {
+    Opened,
+    // 1: the upper list is not 1 to 256 long.
+    UpperLength,
+    // 2: the lower list has another length.
+    LowerLength,
+    // 4: a figure is above 16,776,960.
+    FigureLimit,
+    // 15: the pair is not its own closure, or has none. The curves that closing gives are.
+    NotClosed,
+}
+
 pub struct OpenedGenerator {
-    pub opening: Opening,
+    pub opening: GeneratorOpening,
     pub state: Generator,
 }
 
@@ -51,13 +66,14 @@ struct Limits {
 }
 
 impl Generator {
-    // A generator on the pair of `upper` and `lower`, entry 0 for the window of one tick.
+    // A generator on the pair of `upper` and `lower`, entry 0 for the window of one tick, which must be closed; where the opening is
+    // refused, all of it is 0.
     pub fn open(upper: &[u32], lower: &[u32]) -> OpenedGenerator
         ensures { λ r. ⌜ GeneratorOpened (pairOf (now (upper .entry)) (now (lower .entry))) r ⌝ }
     {
+        let opening = ask_opening(upper, lower);
         let start = History::open(upper, lower);
-        let opening = start.opening;
-        let history = start.history;
+        let history = begin(opening, start.history);
         OpenedGenerator {
             opening,
             state: Generator { history },
@@ -82,6 +98,45 @@ impl Generator {
             return Admissible::BadState;
         };
         range_of(find_limits(self.history))
+    }
+}
+
+// Questions 1, 2, 4 and 15, by closing the pair: what it gives is not needed.
+fn ask_opening(upper: &[u32], lower: &[u32]) -> GeneratorOpening
+    ensures { λ r. ⌜ generatorOpeningReply r ≡ generatorOpening (pairOf (now (upper .entry)) (now (lower .entry))) ⌝ }
+{
+    let mut closed_upper = lists::zeros();
+    let mut closed_lower = lists::zeros();
+    opening_for(closure::close(upper, lower, &mut closed_upper, &mut closed_lower))
+}
+
+// What an opening answers to what closing answered: a pair that takes no round is its own closure. 3 cannot come, as there is room for every
+// horizon.
+fn opening_for(closing: Closing) -> GeneratorOpening
+    ensures { λ r. ⌜ r ≡ generatorOpeningFor closing ⌝ }
+{
+    match closing {
+        Closing::Closed { rounds } => {
+            if rounds == 0 {
+                GeneratorOpening::Opened
+            } else {
+                GeneratorOpening::NotClosed
+            }
+        }
+        Closing::UpperLength => GeneratorOpening::UpperLength,
+        Closing::LowerLength => GeneratorOpening::LowerLength,
+        Closing::FigureLimit => GeneratorOpening::FigureLimit,
+        _ => GeneratorOpening::NotClosed,
+    }
+}
+
+// The history that an opening hands out.
+fn begin(opening: GeneratorOpening, history: History) -> History
+    ensures { λ r. ⌜ r ≡ begunAs opening history ⌝ }
+{
+    match opening {
+        GeneratorOpening::Opened => history,
+        _ => History::zero(),
     }
 }
 

@@ -14,14 +14,15 @@ use Rattle.curves.proofs.Filled.{closure-filled}
 use Rattle.curves.proofs.Extension.{start-conforms}
 use Rattle.curves.proofs.NextTick.{conforms-keeps, keeps-conforms}
 use Rattle.bounds.specs.Bounds.{pairQuestions}
-use Rattle.closure.specs.Theorems.{GivesClosure, closureOf}
+use Rattle.closure.specs.Theorems.{GivesClosure, closureOf, room}
 use Rattle.closure.proofs.Said.{closed-is, gives-passes}
+use Rattle.closure.proofs.Room.{room-passes}
 use Rattle.closure.proofs.Given.{arrived, given-horizon, refused-iff-no-stream, else-closed}
 use Rattle.closure.proofs.Promised.{closure-passes, conforms-iff-extendable, given-is-causal}
 use Rattle.monitor.specs.Monitoring.{MonitorView, Ruling, judged, lost}
-use Rattle.monitor.specs.Opening.{monitorOpening, room, freshMonitor}
+use Rattle.monitor.specs.Opening.{monitorOpening, freshMonitor}
 use Rattle.monitor.specs.Calls.{afterTicks, rulings}
-use Rattle.monitor.proofs.Opening.{room-passes, opening-yes, opening-fifth, opened-yes, opened-gives}
+use Rattle.monitor.proofs.Opening.{opening-yes, opening-fifth, opened-yes, opened-gives}
 use Rattle.guarantees.specs.Exact.{LegalUnfailed, Answers, JudgedOutside, Opens, AllPass, RightOfWholeStream}
 use Rattle.guarantees.specs.Exact.{NothingPassesAfter}
 use Rattle.guarantees.specs.Lost.{MonitorRefusedIffNoStream, AllPassIffExtendable, LostIffNotExtendable, MonitorOpensOnClosure}

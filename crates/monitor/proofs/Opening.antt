@@ -7,16 +7,17 @@ use denote.Enum.Declared.{tagOf}
 use Rattle.curves.specs.Pairs.{Pair, pairOf, first, horizon}
 use Rattle.curves.specs.Questions.{AllYes, FirstNo, result, refusal}
 use Rattle.curves.specs.Theorems.{Closes}
-use Rattle.curves.proofs.Asked.{said-no, said-yes, result-from}
+use Rattle.curves.proofs.Asked.{yes-append, yes-parts, no-before, no-after, said-no, said-yes, result-from}
 use Rattle.bounds.specs.Bounds.{maxHorizon, pairQuestions}
 use Rattle.bounds.proofs.Said.{asking-yes}
 use Rattle.closure.specs.declared.Closing.{Closing}
 use Rattle.closure.specs.declared.Closing.the-variants as closing
 use Rattle.closure.proofs.Closing as the-closing
-use Rattle.closure.specs.Closing.{closingQuestions, ClosingAnswer, closing}
+use Rattle.closure.specs.Closing.{question5, ClosingAnswer, refusedClosing, closing}
 use Rattle.closure.specs.Answers.{closingNumber, closingAnswer}
-use Rattle.closure.specs.Theorems.{PassesFour, GivesClosure}
-use Rattle.closure.proofs.Said.{refused-is, closed-is, cases}
+use Rattle.closure.specs.Theorems.{GivesClosure, room}
+use Rattle.closure.proofs.Said.{closed-is}
+use Rattle.closure.proofs.Room.{room-passes, Refused, Crosses, Given, in-room}
 use Rattle.history.specs.declared.History.{History}
 use Rattle.history.specs.States.{View, viewOf, entries}
 use Rattle.history.specs.Opening.{opening, fresh, Begun, zeroHistory}
@@ -25,7 +26,7 @@ use Rattle.monitor.specs.declared.MonitorOpening.{MonitorOpening}
 use Rattle.monitor.specs.declared.MonitorOpening.the-variants as opened
 use Rattle.monitor.proofs.MonitorOpening as the-opening
 use Rattle.monitor.specs.Monitoring.{monitorOf, monitorView, monitorViewOf}
-use Rattle.monitor.specs.Opening.{monitorQuestions, monitorOpening, room, freshMonitor, zeroMonitor, MonitorBegun}
+use Rattle.monitor.specs.Opening.{monitorQuestions, monitorOpening, freshMonitor, zeroMonitor, MonitorBegun}
 use Rattle.monitor.specs.Answers.{monitorOpeningReply}
 use Rattle.monitor.specs.Steps.{monitorOpeningFor, begunAs}
 
@@ -57,32 +58,20 @@ zero-is h us ls e u l = λ i. monitorOf (e i) (u i) (l i) false
 
 -- ---- the answer
 module _ (p : Pair) where
-  -- There is room for every closure, so closing asks 1, 2, 4 and 5.
-  pub room-passes : AllYes (pairQuestions p) → PassesFour p room
-  room-passes ys =
-      let wide = length-replicate {A = ℕ} maxHorizon 0 in
-      (ys .0, (ys .1 .0, ((omega (arith, wide, ys .0 .1), omega (arith, wide, ys .0 .1)), (ys .1 .1 .0, tt))))
-
-  -- Its first no is the opening's: 3 is answered yes.
-  same-no : (n : ℕ) → FirstNo (closingQuestions p room) n → FirstNo (monitorQuestions p) n
-  same-no n (inl a) = inl a
-  same-no n (inr (y, inl a)) = inr (y, inl a)
-  same-no n (inr (y, inr (z, inl a))) =
-      let wide = length-replicate {A = ℕ} maxHorizon 0 in absurd (a .1 (omega (arith, wide, y .1), omega (arith, wide, y .1)))
-  same-no n (inr (y, inr (z, inr (u, inl a)))) = inr (y, inr (z, inl a))
-  same-no n (inr (y, inr (z, inr (u, inr (v, inl a))))) = inr (y, inr (z, inr (v, inl a)))
-  same-no n (inr (y, inr (z, inr (u, inr (v, inr (c, f)))))) = absurd f
-
   pub opening-yes : AllYes (pairQuestions p) → Closes p → result tt ≡ monitorOpening p
   unfolding monitorOpening
-  opening-yes ys c = sym (said-yes (monitorQuestions p) _ _ (result tt) (ys .0, (ys .1 .0, (ys .1 .1 .0, (c, tt)))) (λ _. refl))
+  opening-yes ys c =
+      sym (said-yes (monitorQuestions p) _ _ (result tt) (yes-append (pairQuestions p) (question5 p ∷ []) ys (c, tt)) (λ _. refl))
 
   pub opening-no : (n : ℕ) → FirstNo (monitorQuestions p) n → refusal n ≡ monitorOpening p
   unfolding monitorOpening
   opening-no n f = sym (said-no (monitorQuestions p) _ _ n f)
 
+  fifth : AllYes (pairQuestions p) → ¬ Closes p → FirstNo (monitorQuestions p) 5
+  fifth ys n = no-after (pairQuestions p) (question5 p ∷ []) 5 ys (inl (refl, n))
+
   pub opening-fifth : AllYes (pairQuestions p) → ¬ Closes p → refusal 5 ≡ monitorOpening p
-  opening-fifth ys n = opening-no 5 (inr (ys .0, inr (ys .1 .0, inr (ys .1 .1 .0, inl (refl, n)))))
+  opening-fifth ys n = opening-no 5 (fifth ys n)
 
   -- No refusal has the number 0, and none has 3.
   numbered : (n : ℕ) → FirstNo (monitorQuestions p) n → (1 ≤ n) × (¬ (n ≡ 3))
@@ -116,30 +105,32 @@ module _ (p : Pair) where
   opened-from e = result-from (monitorQuestions p) _ tt e .0
 
   pub opened-yes : monitorOpening p ≡ result tt → AllYes (pairQuestions p)
-  opened-yes e = let ys = opened-from e in (ys .0, (ys .1 .0, (ys .1 .1 .0, tt)))
+  opened-yes e = yes-parts (pairQuestions p) (question5 p ∷ []) (opened-from e) .0
 
   pub opened-gives : monitorOpening p ≡ result tt → GivesClosure p room
   opened-gives e =
       let (n, q, a) = opened-from e .1 .1 .1 .0 in
-      ap (λ r. r .number) (closed-is p room n q (room-passes (opened-yes e)) a)
+      ap (λ r. r .number) (closed-is p room n q (room-passes p (opened-yes e)) a)
 
   pub answers : (a : MonitorOpening) (c : Closing) → a ≡ monitorOpeningFor c → closingNumber c ≡ closing p room .number
       → monitorOpeningReply a ≡ monitorOpening p
-  answers a c is e =
-      ap monitorOpeningReply is
-      ∙ ⊎-elim
-      (λ (n, f).
-      refused-answers c n (same-no n f) (e ∙ ap (λ r. r .number) (refused-is p room n f)) ∙ opening-no n (same-no n f))
-      (λ (passes, closes).
-      let (n, q, a) = closes in
-      closed-answers c (e ∙ ap (λ r. r .number) (closed-is p room n q passes a))
-      ∙ opening-yes (passes .0, (passes .1 .0, (passes .1 .1 .1 .0, tt))) closes)
-      (cases p room)
+  answers a c is e = ap monitorOpeningReply is ∙ ⊎-elim refused (⊎-elim crosses given) (in-room p)
+    where
+      numbers : (r : ClosingAnswer) → closing p room ≡ r → closingNumber c ≡ r .number
+      numbers r k = e ∙ ap (λ a. a .number) k
 
-  -- The result lists that closing is lent are of zeros.
-  pub in-room : (a : ClosingAnswer) (us ls : List ℕ) → us ≡ replicate maxHorizon 0 → ls ≡ replicate maxHorizon 0
-      → a ≡ closing p (pairOf us ls) → a ≡ closing p room
-  in-room a us ls u l e = e ∙ (λ i. closing p (pairOf (u i) (l i)))
+      refused-with : (n : ℕ) → FirstNo (monitorQuestions p) n → closing p room ≡ refusedClosing n room
+          → monitorOpeningReply (monitorOpeningFor c) ≡ monitorOpening p
+      refused-with n f k = refused-answers c n f (numbers _ k) ∙ opening-no n f
+
+      refused : Refused p → monitorOpeningReply (monitorOpeningFor c) ≡ monitorOpening p
+      refused (n, f, k) = refused-with n (no-before (pairQuestions p) (question5 p ∷ []) n f) k
+
+      crosses : Crosses p → monitorOpeningReply (monitorOpeningFor c) ≡ monitorOpening p
+      crosses (ys, no₅, k) = refused-with 5 (fifth ys no₅) k
+
+      given : Given p → monitorOpeningReply (monitorOpeningFor c) ≡ monitorOpening p
+      given (ys, (n, q, a, k)) = closed-answers c (numbers _ k) ∙ opening-yes ys (n, q, a)
 
 -- ---- the state
 module _ (p : Pair) (h : History) (c : Closing) (us ls : List ℕ) (wide : length us ≡ maxHorizon) (wide′ : length ls ≡ maxHorizon)

@@ -3,11 +3,11 @@ use mathlib.Core.Path.{_≡_}
 use mathlib.Core.Bool.{false}
 use mathlib.Core.List.{List, [], _∷_, _++_}
 use lib.ListN.{replicate}
-use Rattle.curves.specs.Pairs.{Pair, pairOf}
+use Rattle.curves.specs.Pairs.{Pair}
 use Rattle.curves.specs.Questions.{Question, Reply, result, refusal, replyTo}
 use Rattle.bounds.specs.Bounds.{maxHorizon, pairQuestions}
 use Rattle.closure.specs.Closing.{question5}
-use Rattle.closure.specs.Theorems.{closureOf}
+use Rattle.closure.specs.Theorems.{closureOf, room}
 use Rattle.history.specs.Opening.{fresh, zeroHistory}
 use Rattle.monitor.specs.declared.Monitor.{Monitor}
 use Rattle.monitor.specs.Monitoring.{MonitorView, monitorView, monitorViewOf, monitorOf}
@@ -18,10 +18,6 @@ monitorQuestions p = pairQuestions p ++ (question5 p ∷ [])
 -- What an opening answers.
 unfoldable pub monitorOpening : Pair → Reply (Unit {0})
 monitorOpening p = replyTo (monitorQuestions p) (λ _. tt)
-
--- Result lists with room for the closure of every horizon. What they hold has no effect.
-abbrev pub room : Pair
-room = pairOf (replicate maxHorizon 0) (replicate maxHorizon 0)
 
 -- No tick is held yet, and the closed figures are those that closing gives for the pair.
 abbrev pub freshMonitor : Pair → MonitorView

@@ -2,7 +2,8 @@
 -- Assumes nothing.
 use Rattle.laws.proofs.Base.{ap, needs}
 use Rattle.curves.specs.Pairs.{Pair, pairOf}
-use Rattle.monitor.proofs.Opening.{in-room, answers, begun-is}
+use Rattle.closure.proofs.Room.{in-zeros}
+use Rattle.monitor.proofs.Opening.{answers, begun-is}
 use Rattle.monitor.proofs.Monitor.open.Statement.{statement}
 use Rattle.monitor.proofs.Monitor.open.Tie as tie
 
@@ -14,7 +15,7 @@ returns c =
     let zeros = c .before .before .before .before .before .before .before .before .before in
     let args = zeros .before .before .before .before .args in
     let p : Pair = pairOf (args .upper .now) (args .lower .now) in
-    let closes = in-room p _ _ _ (zeros .before .zeros .ensures) (zeros .zeros2 .ensures) (close .ensures) in
+    let closes = in-zeros p _ _ _ (zeros .before .zeros .ensures) (zeros .zeros2 .ensures) (close .ensures) in
     let answer =
     answers p (found .result) (close .result) (found .ensures) (ap (λ a. a .number) closes) in
     record {

@@ -1,0 +1,28 @@
+-- `generator::opening_for` meets its contract: a closure after no round, or after some; in the last arm closing was refused with 5, or with 3.
+-- Assumes nothing.
+use Rattle.laws.proofs.Base.{_≡_, subst⁻¹, needs}
+use Rattle.generator.specs.declared.GeneratorOpening.the-variants.{NotClosed}
+use Rattle.generator.specs.Steps.{generatorOpeningFor}
+use Rattle.generator.proofs.Opening.{some-round, not-closed}
+use Rattle.generator.proofs.opening_for.Statement.{statement}
+use Rattle.generator.proofs.opening_for.Tie as tie
+
+returns-2 : tie.Need-returns-2
+returns-2 c =
+    let told = c .before .before .closing .given in
+    subst⁻¹ (λ k. NotClosed ≡ generatorOpeningFor k) (told .1) (some-round _ (c .if1 .left))
+
+pub opening-for-spec : {M : Type 1} → statement M
+opening-for-spec =
+    tie.close
+    (tie.spec
+    (λ c. search needs)
+    (λ c. search needs)
+    (λ c. search needs)
+    (λ c. search needs)
+    (λ c. search needs)
+    returns-2
+    (λ c. search needs)
+    (λ c. search needs)
+    (λ c. search needs)
+    (λ c. not-closed (c .before .args .closing) (c .match .keys5)))
