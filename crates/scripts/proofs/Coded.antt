@@ -5,14 +5,14 @@ use Rattle.curves.specs.Ticks.{then, Judged, Verdict, tooMany, tooFew, Right}
 use Rattle.curves.specs.Pairs.{Pair}
 use Rattle.curves.specs.Questions.{Question, AllYes, Reply, result, refusal, replyTo}
 use Rattle.curves.proofs.Asked.{Positive, positive, refusal-iff}
-use Rattle.bounds.specs.Bounds.{maxHorizon, pairQuestions, asking}
-use Rattle.history.specs.Opening.{opening}
+use Rattle.bounds.specs.Bounds.{maxHorizon}
 use Rattle.monitor.specs.declared.Verdict as declared
 use Rattle.monitor.specs.declared.Verdict.the-variants.{Passed, TooMany, TooFew, Lost, AlreadyFailed, BadState}
 use Rattle.monitor.specs.Monitoring.{MonitorView, judged, judging}
 use Rattle.monitor.specs.Opening.{monitorQuestions, monitorOpening}
 use Rattle.monitor.specs.Answers.{verdictReply}
 use Rattle.monitor.proofs.Said.{judging-legal, judging-failed, ruling-right}
+use Rattle.generator.specs.Opening.{generatorQuestions, generatorOpening}
 use Rattle.scripts.specs.Codes.{replyNumber}
 use Rattle.scripts.specs.Scripts.{scriptAnswer, afterOpening}
 use Rattle.scripts.specs.Steps.{NamesWindow}
@@ -22,9 +22,9 @@ use Rattle.scripts.specs.Steps.{NamesWindow}
 numbered : (qs : List Question) (y : AllYes qs → Unit {0}) → Positive qs → ¬ (replyTo qs y ≡ refusal 0)
 numbered qs y h e = omega (arith, positive qs h 0 (refusal-iff qs y 0 .0 e))
 
-pub opening-numbered : (p : Pair) → ¬ (opening p ≡ refusal 0)
-unfolding asking
-opening-numbered p = numbered (pairQuestions p) _ (omega arith, (omega arith, (omega arith, tt)))
+pub generator-opening-numbered : (p : Pair) → ¬ (generatorOpening p ≡ refusal 0)
+unfolding generatorOpening
+generator-opening-numbered p = numbered (generatorQuestions p) _ (omega arith, (omega arith, (omega arith, (omega arith, tt))))
 
 pub monitor-opening-numbered : (p : Pair) → ¬ (monitorOpening p ≡ refusal 0)
 unfolding monitorOpening

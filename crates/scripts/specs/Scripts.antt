@@ -3,9 +3,10 @@ use Prim.Native.Nat.{ℕ}
 use mathlib.Core.List.{List, map}
 use Rattle.curves.specs.Pairs.{Pair}
 use Rattle.curves.specs.Questions.{Reply, result, refusal}
-use Rattle.history.specs.Opening.{opening, fresh}
+use Rattle.history.specs.Opening.{fresh}
 use Rattle.monitor.specs.Opening.{monitorOpening, freshMonitor}
 use Rattle.monitor.specs.Calls.{rulings}
+use Rattle.generator.specs.Opening.{generatorOpening}
 use Rattle.generator.specs.Calls.{sendings}
 use Rattle.scripts.specs.Codes.{rulingCode, sendingCode}
 
@@ -25,4 +26,4 @@ abbrev pub judgedScript : Pair → List ℕ → ScriptAnswer
 judgedScript p counts = afterOpening (monitorOpening p) (map rulingCode (rulings (freshMonitor p) counts)) counts
 
 abbrev pub sentScript : Pair → List ℕ → ScriptAnswer
-sentScript p choices = afterOpening (opening p) (map sendingCode (sendings (fresh p) choices)) choices
+sentScript p choices = afterOpening (generatorOpening p) (map sendingCode (sendings (fresh p) choices)) choices

@@ -1,8 +1,8 @@
 // Running a list of calls on a fresh state: the script holds what each call gets, and after it what each is answered.
 
 use generator::Generator;
+use generator::GeneratorOpening;
 use generator::Sending;
-use history::Opening;
 use monitor::Monitor;
 use monitor::MonitorOpening;
 use monitor::Verdict;
@@ -10,11 +10,10 @@ ghost use mathlib.Core.Path.{_≡_};
 ghost use mathlib.Core.List.{map};
 ghost use Rattle.curves.specs.Pairs.{pairOf};
 ghost use Rattle.history.specs.States.{viewOf};
-ghost use Rattle.history.specs.Answers.{openingReply};
 ghost use Rattle.monitor.specs.Monitoring.{monitorViewOf};
 ghost use Rattle.monitor.specs.Answers.{monitorOpeningReply, verdictReply};
 ghost use Rattle.monitor.specs.Calls.{rulings};
-ghost use Rattle.generator.specs.Answers.{sendingReply};
+ghost use Rattle.generator.specs.Answers.{generatorOpeningReply, sendingReply};
 ghost use Rattle.generator.specs.Calls.{sendings};
 ghost use Rattle.scripts.specs.Codes.{replyNumber, rulingCode, sendingCode};
 ghost use Rattle.scripts.specs.Scripts.{scriptAnswer, judgedScript, sentScript};
@@ -134,13 +133,14 @@ fn sending_code(sending: Sending) -> u32
 }
 
 // The number of a refused opening of a generator; 0 where the state is ready.
-fn generator_opening_number(opening: Opening) -> u32
-    ensures { λ r. ⌜ r ≡ replyNumber (openingReply opening) ⌝ }
+fn generator_opening_number(opening: GeneratorOpening) -> u32
+    ensures { λ r. ⌜ r ≡ replyNumber (generatorOpeningReply opening) ⌝ }
 {
     match opening {
-        Opening::Opened => 0,
-        Opening::UpperLength => 1,
-        Opening::LowerLength => 2,
-        Opening::FigureLimit => 4,
+        GeneratorOpening::Opened => 0,
+        GeneratorOpening::UpperLength => 1,
+        GeneratorOpening::LowerLength => 2,
+        GeneratorOpening::FigureLimit => 4,
+        GeneratorOpening::NotClosed => 15,
     }
 }

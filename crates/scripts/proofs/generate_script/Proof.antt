@@ -3,10 +3,11 @@
 use Rattle.laws.proofs.Base.{refl, ap, _∙_, subst, map, needs}
 use Rattle.curves.specs.Pairs.{pairOf}
 use Rattle.history.specs.States.{viewOf}
-use Rattle.history.specs.Opening.{opening, fresh, Begun}
+use Rattle.history.specs.Opening.{fresh, Begun}
+use Rattle.generator.specs.Opening.{generatorOpening}
 use Rattle.generator.specs.Calls.{sendings}
 use Rattle.scripts.specs.Codes.{replyNumber, sendingCode}
-use Rattle.scripts.proofs.Coded.{opening-numbered, run-opened, run-refused}
+use Rattle.scripts.proofs.Coded.{generator-opening-numbered, run-opened, run-refused}
 use Rattle.scripts.proofs.generate_script.Statement.{statement}
 use Rattle.scripts.proofs.generate_script.Tie as tie
 
@@ -18,7 +19,7 @@ returns c =
     let args = ran .before .before .before .before .before .before .before .before .before .args in
     let p = pairOf (args .upper .now) (args .lower .now) in
     let history = told .result .state .history in
-    run-opened _ _ (opening-numbered p)
+    run-opened _ _ (generator-opening-numbered p)
     (number .ensures ∙ ap replyNumber (told .ensures .answer)) (ran .before .before .if1 .taken)
     (viewOf history) (fresh p) (λ e. subst (λ a. Begun a p history) e (told .ensures .history))
     (λ v. map sendingCode (sendings v (args .script .now))) (args .script .now) _ (ran .generate-all .ensures)
@@ -29,7 +30,7 @@ returns-2 c =
     let told = c .before .before .before .«open» in
     let args = c .before .before .before .before .before .before .before .args in
     let p = pairOf (args .upper .now) (args .lower .now) in
-    run-refused _ (opening p) (number .ensures ∙ ap replyNumber (told .ensures .answer)) (c .if1 .left)
+    run-refused _ (generatorOpening p) (number .ensures ∙ ap replyNumber (told .ensures .answer)) (c .if1 .left)
     (map sendingCode (sendings (fresh p) (args .script .now))) _ _ refl
 
 pub generate-script-spec : {M : Type 1} → statement M
