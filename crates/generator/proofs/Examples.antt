@@ -1,13 +1,17 @@
 -- The definitions of specs/ at small examples: each holds by computation. Assumes nothing.
-use Rattle.laws.proofs.Base.{_≡_, refl, [], _∷_, ⊎-map, Dec·and, decLe, decLt}
-use Rattle.laws.specs.Ranges.{fold}
+use Rattle.laws.proofs.Base.{_≡_, refl, [], _∷_, ⊎-map, Dec·and, decLe, decLt, ℕ-discrete}
+use Rattle.laws.specs.Ranges.{fold, table}
 use Rattle.laws.proofs.Search.{every, every?}
 use Rattle.curves.specs.Streams.{sum}
 use Rattle.curves.specs.Pairs.{Pair, pairOf, figure}
-use Rattle.curves.specs.Questions.{ask, result}
+use Rattle.curves.specs.Questions.{ask, result, refusal}
+use Rattle.curves.specs.Rounds.{newFigure, round, figuresOf}
+use Rattle.curves.proofs.Arrival.{crossed?, equal?}
+use Rattle.curves.proofs.Closure.{causal?}
 use Rattle.curves.proofs.NextTick.{range-from, range?}
 use Rattle.history.specs.States.{View, legal?}
 use Rattle.generator.specs.Generating.{ranging}
+use Rattle.generator.specs.Opening.{generatorOpening}
 use Rattle.generator.specs.Calls.{sendings}
 
 abbrev pair : Pair
@@ -21,3 +25,28 @@ some = record { pair = pair; held = 2 ∷ 1 ∷ [] }
 five-by-three : sendings some (5 ∷ 5 ∷ []) ≡ result 2 ∷ result 0 ∷ []
 unfolding sendings ranging ask legal? ⊎-map every every? Dec·and decLe decLt figure range? range-from fold sum
 five-by-three = refl
+
+-- Closed curves open.
+opens : generatorOpening pair ≡ result tt
+unfolding generatorOpening ask ⊎-map every every? Dec·and decLe ℕ-discrete figure causal? crossed? equal? fold table newFigure round figuresOf
+opens = refl
+
+-- A figure that says nothing is refused, although every start that conforms can be extended: two ticks cannot have 3 where one has at most
+-- 1, and they have 2 at least where one has 1.
+loose-ceiling : generatorOpening (pairOf (1 ∷ 3 ∷ []) (0 ∷ 0 ∷ [])) ≡ refusal 15
+unfolding generatorOpening ask ⊎-map every every? Dec·and decLe ℕ-discrete figure causal? crossed? equal? fold table newFigure round figuresOf
+loose-ceiling = refl
+
+loose-least : generatorOpening (pairOf (2 ∷ 4 ∷ []) (1 ∷ 1 ∷ [])) ≡ refusal 15
+unfolding generatorOpening ask ⊎-map every every? Dec·and decLe ℕ-discrete figure causal? crossed? equal? fold table newFigure round figuresOf
+loose-least = refl
+
+-- Figures that cross have no closure: 15 too, and not 5. A round changes none of these.
+crossing : generatorOpening (pairOf (2 ∷ []) (7 ∷ [])) ≡ refusal 15
+unfolding generatorOpening ask ⊎-map every every? Dec·and decLe ℕ-discrete figure causal? crossed? equal? fold table newFigure round figuresOf
+crossing = refl
+
+-- 4 comes first.
+limit-first : generatorOpening (pairOf (16_776_961 ∷ []) (16_776_962 ∷ [])) ≡ refusal 4
+unfolding generatorOpening ask ⊎-map every every? Dec·and decLe ℕ-discrete figure
+limit-first = refl

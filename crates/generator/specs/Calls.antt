@@ -37,6 +37,12 @@ Calls g [] = Unit {0}
 Calls g (ticked choice r ∷ cs) = GeneratorTicked g choice r × Calls (r .next) cs
 Calls g (ranged r ∷ cs) = GeneratorRanged g r × Calls g cs
 
+-- The state that a list of calls leaves.
+abbrev pub stateAfter : Generator → List Call → Generator
+stateAfter g [] = g
+stateAfter g (ticked choice r ∷ cs) = stateAfter (r .next) cs
+stateAfter g (ranged r ∷ cs) = stateAfter g cs
+
 -- The choices of the ticks, and what these were answered, in order.
 abbrev pub choicesOf : List Call → List ℕ
 choicesOf [] = []

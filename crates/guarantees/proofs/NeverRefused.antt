@@ -1,69 +1,208 @@
--- Demand 3, its last two sentences: a generator on a closure is opened and is never refused, over any list of calls. Assumes nothing.
-use Rattle.laws.proofs.Base.{ℕ, _-_, _≡_, sym, _∙_, subst, List, [], _∷_, _++_, append-assoc, append-nil, arith}
+-- Request P3, and demand 3's last two sentences: a generator that was opened is never refused, over any list of calls, and a closure opens one.
+-- Assumes nothing.
+use Rattle.laws.proofs.Base.{ℕ, _-_, _≤_, _≡_, refl, sym, ap, _∙_, subst, List, [], _∷_, _++_, append-assoc, append-nil, _↔_, arith}
 use mathlib.Core.Logic.{Iff·trans, Iff·symm}
 use Rattle.laws.specs.Tests.{Each}
-use Rattle.curves.specs.Pairs.{Pair, horizon}
-use Rattle.curves.specs.Conformance.{Conforms}
-use Rattle.curves.specs.Ticks.{then}
+use Rattle.curves.specs.Streams.{countLimit}
+use Rattle.curves.specs.Pairs.{Pair, horizon, Equal}
+use Rattle.curves.specs.Conformance.{Conforms, Extendable}
+use Rattle.curves.specs.Ticks.{then, passed}
 use Rattle.curves.specs.Rounds.{Causal}
-use Rattle.curves.specs.Questions.{result}
-use Rattle.curves.proofs.Closure.{one-more-tick}
+use Rattle.curves.specs.Questions.{AllYes, Reply, result, refusal}
+use Rattle.curves.proofs.Asked.{no-refusal}
+use Rattle.curves.proofs.Figures.{full-same}
+use Rattle.curves.proofs.Closure.{one-more-tick, causal-takes-no-round, causal-iff-no-round}
 use Rattle.curves.proofs.Verdicts.{range-newest}
-use Rattle.closure.specs.Theorems.{GivesClosure, closureOf}
-use Rattle.closure.proofs.Promised.{closure-passes, given-is-causal, conforms-iff-extendable}
-use Rattle.history.specs.States.{View, viewOf}
+use Rattle.bounds.specs.Bounds.{pairQuestions, RoomFor}
 use Rattle.bounds.proofs.Said.{asking-yes}
-use Rattle.history.specs.Opening.{opening, Begun}
+use Rattle.closure.specs.Closing.{closing}
+use Rattle.closure.specs.Theorems.{PassesFour, GivesClosure, closureOf, room}
+use Rattle.closure.proofs.Said.{closed-is, gives-passes}
+use Rattle.closure.proofs.Room.{room-passes}
+use Rattle.closure.proofs.Given.{arrived, given-even}
+use Rattle.closure.proofs.Promised.{closure-passes, given-is-causal, conforms-iff-extendable, causal-iff-given-back}
+use Rattle.history.specs.States.{View, viewOf}
+use Rattle.history.specs.Opening.{opening, fresh, zeroHistory, Begun}
+use Rattle.history.proofs.Histories.{horizon-seen}
+use Rattle.monitor.specs.Monitoring.{MonitorView, judged}
+use Rattle.monitor.specs.Opening.{freshMonitor}
+use Rattle.monitor.specs.Calls.{afterTicks}
 use Rattle.generator.specs.declared.Generator.{Generator}
-use Rattle.generator.specs.Generating.{RangeAnswer, ranging, chosen, sending}
+use Rattle.generator.specs.declared.OpenedGenerator.{OpenedGenerator}
+use Rattle.generator.specs.Generating.{RangeAnswer, ranging, chosen, sending, sentFrom, GeneratorNext}
+use Rattle.generator.specs.Opening.{generatorOpening}
 use Rattle.generator.specs.Answers.{sendingReply}
-use Rattle.generator.specs.Calls.{Call, ticked, ranged, Calls, countsSent}
-use Rattle.generator.proofs.Said.{range-answer, ranging-range, generator-next}
-use Rattle.guarantees.specs.NeverRefused.{OpensOnClosure, NotRefused, NeverRefused, PassesIffExtendable}
+use Rattle.generator.specs.Promises.{GeneratorOpened}
+use Rattle.generator.specs.Calls.{Call, ticked, ranged, Calls, stateAfter, countsSent}
+use Rattle.generator.proofs.Said.{range-answer, ranging-bad, ranging-range, generator-next}
+use Rattle.generator.proofs.Opening.{opening-yes, opening-fifteenth, opened-yes, opened-causal}
+use Rattle.guarantees.specs.Exact.{Answers, AllPass}
+use Rattle.guarantees.specs.NeverRefused.{GeneratorOpens, GivenBack, OpensIffGivenBack, FifteenIffNotGivenBack, WasOpened, NotRefused}
+use Rattle.guarantees.specs.NeverRefused.{OpenedNeverRefused, Reached, NoCountOnlyUnreached, SendsIffExtendable, SendsIffPasses}
+use Rattle.guarantees.specs.NeverRefused.{OpensOnClosure, NeverRefused, PassesIffExtendable}
 use Rattle.guarantees.proofs.Held.{heldOf, held-fresh, held-legal, opened-positive}
-use Rattle.guarantees.proofs.Lost.{all-pass-iff-extendable, monitor-opens-on-closure, extendable-same}
-use Rattle.guarantees.proofs.Generating.{sent-on, sent-conforms}
+use Rattle.guarantees.proofs.Lost.{all-pass-iff-extendable, monitor-opens-on-closure, extendable-same, sends-iff-passes-on-closure}
+use Rattle.guarantees.proofs.Generating.{sent-on, sent-conforms, sends-conforming}
+use Rattle.guarantees.proofs.Total.{sending-refused, ranging-refused}
 
-closure-opens : (p found : Pair) → GivesClosure p found → opening (closureOf p found) ≡ result tt
-closure-opens p found g = sym (asking-yes (closureOf p found) (closure-passes p found g))
+-- ---- where a generator opens
+given-back : (p found : Pair) → PassesFour p found → Causal p → GivenBack p found
+given-back p found ok c = closed-is p found 0 p ok (causal-takes-no-round p c)
+
+back-causal : (p found : Pair) → GivenBack p found → Causal p
+back-causal p found e =
+    let g : GivesClosure p found = ap (λ a. a .number) e in
+    causal-iff-no-round p (closureOf p found) _ (arrived p found g) .1 (ap (λ a. a .rounds) e)
+
+pub opens-iff-given-back : OpensIffGivenBack
+opens-iff-given-back p found wide = (
+  (λ o. let ys = opened-yes p o in given-back p found (ys .0, (ys .1 .0, (wide, (ys .1 .1 .0, tt)))) (opened-causal p o)),
+  λ e.
+      let ok : PassesFour p found = gives-passes p found (ap (λ a. a .number) e) .0 in
+      sym (opening-yes p (ok .0, (ok .1 .0, (ok .1 .1 .1 .0, tt))) (back-causal p found e)),
+)
+
+pub fifteen-iff-not-given-back : FifteenIffNotGivenBack
+fifteen-iff-not-given-back p found ok = (
+  (λ e k. no-refusal tt 15 (sym (opens-iff-given-back p found (ok .1 .1 .0) .1 k) ∙ e)),
+  λ n. sym (opening-fifteenth p (ok .0, (ok .1 .0, (ok .1 .1 .1 .0, tt))) (λ c. n (given-back p found ok c))),
+)
+
+-- ---- a pair that a generator was opened on
+module _ (p : Pair) (o : GeneratorOpens p) where
+  yes-p : AllYes (pairQuestions p)
+  yes-p = opened-yes p o
+
+  causal : Causal p
+  causal = opened-causal p o
+
+  asked : opening p ≡ result tt
+  asked = sym (asking-yes p yes-p)
+
+  -- It is its own closure.
+  back : GivesClosure p room × Equal (closureOf p room) p
+  back = causal-iff-given-back p room (room-passes p yes-p) .0 causal
+
+  own : closureOf p room ≡ p
+  own = full-same 0 (closureOf p room) p (given-even p room (back .0)) (yes-p .1 .0) (back .1)
+
+  extendable-iff : (xs : List ℕ) → Conforms p xs ↔ Extendable p xs
+  extendable-iff xs = subst (λ q. Conforms q xs ↔ Extendable p xs) own (conforms-iff-extendable p room (back .0) xs)
+
+  -- A conforming stream can go on, so a range is shown, of which a tick sends a count.
+  shows : (v : View) (ys : List ℕ) → v ≡ heldOf p ys → Conforms p ys → (b : RangeAnswer) × (ranging v ≡ result b)
+  shows v ys s c =
+      let h = opened-positive p asked in
+      let r = range-newest p (horizon p - 1) ys (omega arith) (one-more-tick p ys h causal c .0) in
+      (range-answer (r .lo) (r .hi), rw s (ranging-range (heldOf p ys) (held-legal p asked ys) r))
+
+  -- After the stream ys, a state holds its last ticks, and it conforms.
+  pub record Holds (g : Generator) (ys : List ℕ) : Type 0 where
+    pub view : viewOf (g .history) ≡ heldOf p ys
+    pub conforms : Conforms p ys
+
+  -- From there no call is refused, and so it stays.
+  never : (cs : List Call) (ys : List ℕ) (g : Generator) → Holds g ys → Calls g cs
+      → Each NotRefused cs × Holds (stateAfter g cs) (ys ++ countsSent cs)
+  never [] ys g s t = (tt, rw append-nil s)
+  never (ranged r ∷ cs) ys g s (a, t) =
+      let (b, e) = shows (viewOf (g .history)) ys (s .view) (s .conforms) in
+      let (all, s′) = never cs ys g s t in
+      (((b, a ∙ e), all), s′)
+  never (ticked choice r ∷ cs) ys g s (a, t) =
+      let v = viewOf (g .history) in
+      let (b, l) = shows v ys (s .view) (s .conforms) in
+      let x = chosen b choice in
+      let e : sending v choice ≡ result x = rw l in
+      let said : sendingReply (r .sending) ≡ result x = a .answer ∙ e in
+      let next : Holds (r .next) (then ys x) =
+      record {
+        view = generator-next g choice r a ∙ sent-on p asked v ys (s .view) choice x e;
+        conforms = sent-conforms p asked v ys (s .view) choice x (s .conforms) e;
+      } in
+      let (all, s′) = never cs (then ys x) (r .next) next t in
+      (((x, said), all), rw (said, ← append-assoc ys (x ∷ []) (countsSent cs)) s′)
+
+  pub never-from : (r : OpenedGenerator) → GeneratorOpened p r → (cs : List Call) → Calls (r .state) cs
+      → Each NotRefused cs × Holds (stateAfter (r .state) cs) (countsSent cs)
+  never-from r a cs t =
+      let begun : Holds (r .state) [] =
+      record {
+        view = subst (λ x. Begun x p (r .state .history)) o (a .history) ∙ held-fresh p;
+        conforms = λ i d u v w. absurd (omega arith);
+      } in
+      never cs [] (r .state) begun t
+
+pub opened-never-refused : OpenedNeverRefused
+opened-never-refused p r a w cs t =
+    let o : GeneratorOpens p = sym (a .answer) ∙ w in
+    let (all, s) = never-from p o r a cs t in
+    (all, extendable-iff p o (countsSent cs) .0 (s .conforms))
+
+-- ---- 13
+-- A refused opening's state is refused with 12, and stays.
+zero-bad : ranging (viewOf zeroHistory) ≡ refusal 12
+unfolding zeroHistory
+zero-bad = ranging-bad (viewOf zeroHistory) (λ l. omega (arith, horizon-seen zeroHistory, l .lengths .0))
+
+bad-stays : (cs : List Call) (g : Generator) → ranging (viewOf (g .history)) ≡ refusal 12 → Calls g cs → stateAfter g cs ≡ g
+bad-stays [] g e t = refl
+bad-stays (ranged r ∷ cs) g e (a, t) = bad-stays cs g e t
+bad-stays (ticked choice r ∷ cs) g e (a, t) =
+    let same : r .next ≡ g = subst (λ x. GeneratorNext (sentFrom x choice) g (r .next)) e (a .next) in
+    bad-stays cs (r .next) (rw same e) t ∙ same
+
+-- No list of calls leads from an opening to a state that is refused with 13.
+not-stuck : (p : Pair) (r : OpenedGenerator) → GeneratorOpened p r → (cs : List Call) → Calls (r .state) cs
+    → ¬ (ranging (viewOf (stateAfter (r .state) cs .history)) ≡ refusal 13)
+not-stuck p r a cs t e = go (generatorOpening p) refl
+  where
+    go : (x : Reply (Unit {0})) → generatorOpening p ≡ x → ⊥
+    go (result u) o =
+        let s = never-from p o r a cs t .1 in
+        let (b, l) = shows p o (viewOf (stateAfter (r .state) cs .history)) (countsSent cs) (s .view) (s .conforms) in
+        no-refusal b 13 (sym l ∙ e)
+    go (refusal n) o =
+        let zero : r .state .history ≡ zeroHistory = subst (λ x. Begun x p (r .state .history)) o (a .history) in
+        let bad : ranging (viewOf (r .state .history)) ≡ refusal 12 = rw zero zero-bad in
+        let z : _≡_ {A = ℕ} 12 13 = cc (bad-stays cs (r .state) bad t) in
+        omega arith
+
+not-reached : (g : Generator) → ranging (viewOf (g .history)) ≡ refusal 13 → ¬ Reached g
+not-reached g e k = not-stuck (k .pair) (k .opened) (k .as-promised) (k .calls) (k .in-turn) (ap ranging (k .led-to) ∙ e)
+
+pub no-count-only-unreached : NoCountOnlyUnreached
+no-count-only-unreached g = (
+  not-reached g,
+  λ choice e.
+      let v : View = viewOf (g .history) in
+      not-reached g (ranging-refused v 13 .1 (sending-refused v choice 13 .0 e)),
+)
+
+-- ---- what can be sent
+pub sends-iff-extendable : SendsIffExtendable
+sends-iff-extendable p o xs = Iff·trans (Iff·symm (extendable-iff p o xs)) (sends-conforming p (asked p o) xs)
+
+abbrev Sends : Pair → Type 0
+Sends q =
+    (xs : List ℕ) → AllPass q xs → (x : ℕ)
+    → let w : MonitorView = afterTicks (freshMonitor q) xs in
+    ((choice : ℕ) × (choice ≤ countLimit) × (sending (w .view) choice ≡ result x)) ↔ Answers w x (judged passed)
+
+pub sends-iff-passes : SendsIffPasses
+sends-iff-passes p o = subst Sends (own p o) (sends-iff-passes-on-closure p room (back p o .0))
+
+-- ---- on a closure
+closure-opens : (p found : Pair) → GivesClosure p found → GeneratorOpens (closureOf p found)
+closure-opens p found g = sym (opening-yes (closureOf p found) (closure-passes p found g) (given-is-causal p found g))
 
 pub opens-on-closure : OpensOnClosure
 opens-on-closure p found g o a = a .answer ∙ closure-opens p found g
 
--- ---- on a causal pair
-module _ (q : Pair) (o : opening q ≡ result tt) (causal : Causal q) where
-  -- A conforming stream can go on, so a range is shown, of which a tick sends a count.
-  shows : (v : View) (ys : List ℕ) → v ≡ heldOf q ys → Conforms q ys → (b : RangeAnswer) × (ranging v ≡ result b)
-  shows v ys s c =
-      let h = opened-positive q o in
-      let r = range-newest q (horizon q - 1) ys (omega arith) (one-more-tick q ys h causal c .0) in
-      (range-answer (r .lo) (r .hi), rw s (ranging-range (heldOf q ys) (held-legal q o ys) r))
-
-  -- From the stream ys on.
-  never : (cs : List Call) (ys : List ℕ) (g : Generator) → viewOf (g .history) ≡ heldOf q ys → Conforms q ys → Calls g cs
-      → Each NotRefused cs × Conforms q (ys ++ countsSent cs)
-  never [] ys g s c t = (tt, rw append-nil c)
-  never (ranged r ∷ cs) ys g s c (a, t) =
-      let (b, e) = shows (viewOf (g .history)) ys s c in
-      let (all, c′) = never cs ys g s c t in
-      (((b, a ∙ e), all), c′)
-  never (ticked choice r ∷ cs) ys g s c (a, t) =
-      let v = viewOf (g .history) in
-      let (b, l) = shows v ys s c in
-      let x = chosen b choice in
-      let e : sending v choice ≡ result x = rw l in
-      let said : sendingReply (r .sending) ≡ result x = a .answer ∙ e in
-      let next = generator-next g choice r a ∙ sent-on q o v ys s choice x e in
-      let (all, c′) = never cs (then ys x) (r .next) next (sent-conforms q o v ys s choice x c e) t in
-      (((x, said), all), rw (said, ← append-assoc ys (x ∷ []) (countsSent cs)) c′)
-
 pub never-refused : NeverRefused
 never-refused p found g o a cs t =
-    let q : Pair = closureOf p found in
-    let opened : opening q ≡ result tt = closure-opens p found g in
-    let begun : viewOf (o .state .history) ≡ heldOf q [] = subst (λ r. Begun r q (o .state .history)) opened (a .history) ∙ held-fresh q in
-    let (all, c) = never q opened (given-is-causal p found g) cs [] (o .state) begun (λ i d u v w. absurd (omega arith)) t in
-    (all, conforms-iff-extendable p found g (countsSent cs) .0 c)
+    let (all, e) = opened-never-refused (closureOf p found) o a (opens-on-closure p found g o a) cs t in
+    (all, extendable-same p found g (countsSent cs) .1 e)
 
 pub passes-iff-extendable : PassesIffExtendable
 passes-iff-extendable p found g xs =

@@ -7,8 +7,9 @@ use Rattle.bounds.specs.Bounds.{pairQuestions, asking}
 use Rattle.monitor.specs.Monitoring.{monitorQuestion12, judging}
 use Rattle.monitor.specs.Opening.{monitorQuestions, monitorOpening}
 use Rattle.generator.specs.Generating.{rangeQuestions, RangeAnswer, ranging, sentFrom}
-use Rattle.guarantees.specs.Total.{OpeningRefused, MonitorOpeningRefused, JudgingRefused, RangingRefused, SendingRefused}
-use Rattle.guarantees.specs.Total.{RefusedMonitorStays, RefusedGeneratorStays}
+use Rattle.generator.specs.Opening.{generatorQuestions, generatorOpening}
+use Rattle.guarantees.specs.Total.{OpeningRefused, MonitorOpeningRefused, GeneratorOpeningRefused, JudgingRefused, RangingRefused}
+use Rattle.guarantees.specs.Total.{SendingRefused, RefusedMonitorStays, RefusedGeneratorStays}
 
 pub opening-refused : OpeningRefused
 unfolding asking
@@ -17,6 +18,10 @@ opening-refused p n = refusal-iff (pairQuestions p) _ n
 pub monitor-opening-refused : MonitorOpeningRefused
 unfolding monitorOpening
 monitor-opening-refused p n = refusal-iff (monitorQuestions p) _ n
+
+pub generator-opening-refused : GeneratorOpeningRefused
+unfolding generatorOpening
+generator-opening-refused p n = refusal-iff (generatorQuestions p) _ n
 
 pub judging-refused : JudgingRefused
 unfolding judging

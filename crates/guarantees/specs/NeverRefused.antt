@@ -1,31 +1,95 @@
--- Demand 3, its last two sentences. The others are closing's own (`EqualIffSameStreams`, `RefusedIffNoStream`, `ElseClosed`,
--- `FiguresMet`, `ConformsIffExtendable`).
-use Prim.Native.Nat.{ℕ}
+-- Request P3: what the answer of a generator's opening says of all that follows. Demand 3's last two sentences are the case of a closure;
+-- its others are closing's own (`EqualIffSameStreams`, `RefusedIffNoStream`, `ElseClosed`, `FiguresMet`, `ConformsIffExtendable`).
+use Prim.Native.Nat.{ℕ, _≤_}
 use mathlib.Core.Path.{_≡_}
-use mathlib.Core.List.{List}
+use mathlib.Core.List.{List, map}
 use mathlib.Core.Logic.{_↔_}
 use Rattle.laws.specs.Tests.{Each}
-use Rattle.curves.specs.Pairs.{Pair}
+use Rattle.curves.specs.Streams.{countLimit}
+use Rattle.curves.specs.Pairs.{Pair, horizon}
 use Rattle.curves.specs.Conformance.{Extendable}
-use Rattle.curves.specs.Questions.{result}
-use Rattle.closure.specs.Theorems.{GivesClosure, closureOf}
-use Rattle.history.specs.Answers.{openingReply}
+use Rattle.curves.specs.Ticks.{passed}
+use Rattle.curves.specs.Questions.{result, refusal}
+use Rattle.bounds.specs.Bounds.{RoomFor}
+use Rattle.closure.specs.Closing.{givenClosing, closing}
+use Rattle.closure.specs.Theorems.{PassesFour, GivesClosure, closureOf}
+use Rattle.history.specs.States.{viewOf}
+use Rattle.history.specs.Opening.{fresh}
+use Rattle.monitor.specs.Monitoring.{MonitorView, judged}
+use Rattle.monitor.specs.Opening.{freshMonitor}
+use Rattle.monitor.specs.Calls.{afterTicks}
+use Rattle.generator.specs.declared.Generator.{Generator}
 use Rattle.generator.specs.declared.OpenedGenerator.{OpenedGenerator}
-use Rattle.generator.specs.Generating.{RangeAnswer}
-use Rattle.generator.specs.Answers.{rangeReply, sendingReply}
+use Rattle.generator.specs.Generating.{RangeAnswer, ranging, sending, EqualGenerators}
+use Rattle.generator.specs.Opening.{generatorOpening}
+use Rattle.generator.specs.Answers.{generatorOpeningReply, rangeReply, sendingReply}
 use Rattle.generator.specs.Promises.{GeneratorOpened}
-use Rattle.generator.specs.Calls.{Call, ticked, ranged, Calls, countsSent}
-use Rattle.guarantees.specs.Exact.{AllPass}
+use Rattle.generator.specs.Calls.{sendings, Call, ticked, ranged, Calls, stateAfter, countsSent}
+use Rattle.guarantees.specs.Exact.{Answers, AllPass}
 
--- Opening a generator on a closure is not refused.
-abbrev pub OpensOnClosure : Type 0
-OpensOnClosure =
-    (p found : Pair) → GivesClosure p found → (o : OpenedGenerator) → GeneratorOpened (closureOf p found) o
-    → openingReply (o .opening) ≡ result tt
+-- ---- where a generator opens
+abbrev pub GeneratorOpens : Pair → Type 0
+GeneratorOpens p = generatorOpening p ≡ result tt
+
+-- Exactly on the pairs that closing gives back with no round, whatever lists with room for them it is lent.
+abbrev pub GivenBack : Pair → Pair → Type 0
+GivenBack p found = closing p found ≡ givenClosing 0 p found
+
+abbrev pub OpensIffGivenBack : Type 0
+OpensIffGivenBack = (p found : Pair) → RoomFor (horizon p) found → GeneratorOpens p ↔ GivenBack p found
+
+-- Of lists that pass questions 1, 2 and 4, it is refused for all others with 15.
+abbrev pub FifteenIffNotGivenBack : Type 0
+FifteenIffNotGivenBack = (p found : Pair) → PassesFour p found → (generatorOpening p ≡ refusal 15) ↔ (¬ GivenBack p found)
+
+-- ---- a generator that was opened
+abbrev pub WasOpened : OpenedGenerator → Type 0
+WasOpened o = generatorOpeningReply (o .opening) ≡ result tt
 
 abbrev pub NotRefused : Call → Type 0
 NotRefused (ticked choice r) = (x : ℕ) × (sendingReply (r .sending) ≡ result x)
 NotRefused (ranged r) = (b : RangeAnswer) × (rangeReply r ≡ result b)
+
+-- No call of any list is refused, and the counts sent begin an unbounded stream that conforms to its pair.
+abbrev pub OpenedNeverRefused : Type 0
+OpenedNeverRefused =
+    (p : Pair) (o : OpenedGenerator) → GeneratorOpened p o → WasOpened o → (cs : List Call) → Calls (o .state) cs
+    → Each NotRefused cs × Extendable p (countsSent cs)
+
+-- A state that an opening and calls led to, or one equal to it. The opening may have been refused.
+pub record Reached (g : Generator) : Type 0 where
+  pub pair : Pair
+  pub opened : OpenedGenerator
+  pub as-promised : GeneratorOpened pair opened
+  pub calls : List Call
+  pub in-turn : Calls (opened .state) calls
+  pub led-to : EqualGenerators (stateAfter (opened .state) calls) g
+
+-- 13 comes from no such state.
+abbrev pub NoCountOnlyUnreached : Type 0
+NoCountOnlyUnreached =
+    (g : Generator)
+    → (ranging (viewOf (g .history)) ≡ refusal 13 → ¬ Reached g)
+    × ((choice : ℕ) → sending (viewOf (g .history)) choice ≡ refusal 13 → ¬ Reached g)
+
+-- The lists of counts that it can send are the extendable streams.
+abbrev pub SendsIffExtendable : Type 0
+SendsIffExtendable =
+    (p : Pair) → GeneratorOpens p → (xs : List ℕ)
+    → Extendable p xs ↔ ((choices : List ℕ) × Each (λ c. c ≤ countLimit) choices × (sendings (fresh p) choices ≡ map result xs))
+
+-- Beside a monitor on the same pair that has passed every tick, it can send exactly the counts that the monitor passes next.
+abbrev pub SendsIffPasses : Type 0
+SendsIffPasses =
+    (p : Pair) → GeneratorOpens p → (xs : List ℕ) → AllPass p xs → (x : ℕ)
+    → let w : MonitorView = afterTicks (freshMonitor p) xs in
+    ((choice : ℕ) × (choice ≤ countLimit) × (sending (w .view) choice ≡ result x)) ↔ Answers w x (judged passed)
+
+-- ---- on a closure
+-- Opening a generator is not refused.
+abbrev pub OpensOnClosure : Type 0
+OpensOnClosure =
+    (p found : Pair) → GivesClosure p found → (o : OpenedGenerator) → GeneratorOpened (closureOf p found) o → WasOpened o
 
 -- From there no call of any list is refused, and the counts sent begin an unbounded stream that conforms to the pair.
 abbrev pub NeverRefused : Type 0

@@ -18,16 +18,21 @@ use Rattle.monitor.specs.Promises.{MonitorTicked}
 use Rattle.generator.specs.declared.Generator.{Generator}
 use Rattle.generator.specs.declared.Sent.{Sent}
 use Rattle.generator.specs.Generating.{rangeQuestions, ranging, sending}
+use Rattle.generator.specs.Opening.{generatorQuestions, generatorOpening}
 use Rattle.generator.specs.Answers.{sendingReply}
 use Rattle.generator.specs.Promises.{GeneratorTicked}
 
--- Opening a generator: 1, 2, 4.
+-- Opening a history, which both have: 1, 2, 4.
 abbrev pub OpeningRefused : Type 0
 OpeningRefused = (p : Pair) (n : ℕ) → (opening p ≡ refusal n) ↔ FirstNo (pairQuestions p) n
 
 -- Opening a monitor: 1, 2, 4, 5.
 abbrev pub MonitorOpeningRefused : Type 0
 MonitorOpeningRefused = (p : Pair) (n : ℕ) → (monitorOpening p ≡ refusal n) ↔ FirstNo (monitorQuestions p) n
+
+-- Opening a generator: 1, 2, 4, 15.
+abbrev pub GeneratorOpeningRefused : Type 0
+GeneratorOpeningRefused = (p : Pair) (n : ℕ) → (generatorOpening p ≡ refusal n) ↔ FirstNo (generatorQuestions p) n
 
 -- A tick of the monitor: 12, on a failed state too.
 abbrev pub JudgingRefused : Type 0
