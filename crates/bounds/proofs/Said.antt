@@ -1,8 +1,8 @@
 -- What `asking` says, case by case: all questions are answered yes, or one is the first that is answered no. Assumes nothing.
-use Rattle.laws.proofs.Base.{ℕ, _≡_, refl, sym}
+use Rattle.laws.proofs.Base.{ℕ, _≡_, refl, sym, List, [], _∷_, _++_, inl}
 use Rattle.curves.specs.Pairs.{Pair}
-use Rattle.curves.specs.Questions.{AllYes, FirstNo, result, refusal}
-use Rattle.curves.proofs.Asked.{said-no, said-yes, refusal-iff, result-from}
+use Rattle.curves.specs.Questions.{Question, AllYes, FirstNo, Reply, result, refusal, replyTo}
+use Rattle.curves.proofs.Asked.{yes-append, yes-parts, no-before, no-after, said-no, said-yes, refusal-iff, result-from}
 use Rattle.bounds.specs.declared.Asked.{Asked}
 use Rattle.bounds.specs.declared.Asked.the-variants.{Passes, UpperLength, LowerLength, FigureLimit}
 use Rattle.bounds.specs.Bounds.{pairQuestions, asking}
@@ -37,3 +37,23 @@ module _ (p : Pair) where
   found UpperLength e = no-from 1 (sym e)
   found LowerLength e = no-from 2 (sym e)
   found FigureLimit e = no-from 4 (sym e)
+
+-- ---- one question asked after them
+module _ (p : Pair) (more : Question) where
+  abbrev questions : List Question
+  questions = pairQuestions p ++ (more ∷ [])
+
+  abbrev reply : Reply (Unit {0})
+  reply = replyTo questions (λ _. tt)
+
+  pub more-yes : AllYes (pairQuestions p) → more .asked → result tt ≡ reply
+  more-yes ys y = sym (said-yes questions _ _ (result tt) (yes-append (pairQuestions p) (more ∷ []) ys (y, tt)) (λ _. refl))
+
+  pub more-first-no : (n : ℕ) → FirstNo (pairQuestions p) n → refusal n ≡ reply
+  more-first-no n f = sym (said-no questions _ _ n (no-before (pairQuestions p) (more ∷ []) n f))
+
+  pub more-no : AllYes (pairQuestions p) → ¬ (more .asked) → refusal (more .number) ≡ reply
+  more-no ys n = sym (said-no questions _ _ (more .number) (no-after (pairQuestions p) (more ∷ []) _ ys (inl (refl, n))))
+
+  pub more-from : reply ≡ result tt → AllYes (pairQuestions p) × (more .asked)
+  more-from e = let (ys, more-ys) = yes-parts (pairQuestions p) (more ∷ []) (result-from questions _ tt e .0) in (ys, more-ys .0)

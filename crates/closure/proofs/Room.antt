@@ -1,11 +1,18 @@
--- Closing with room for the closure of every horizon: question 3 is answered yes, so 1, 2, 4 and 5 decide. Assumes nothing.
-use Rattle.laws.proofs.Base.{ℕ, _≡_, _∙_, List, _⊎_, inl, inr, ⊎-elim, arith, replicate, length-replicate}
+-- Closing with room for the closure of every horizon: question 3 is answered yes, so 1, 2, 4 and 5 decide. What an opening asks closing for.
+-- Assumes nothing.
+use Rattle.laws.proofs.Base.{ℕ, _≤_, _≡_, refl, sym, ap, _∙_, subst, List, [], _∷_, _⊎_, inl, inr, ⊎-elim, arith, replicate, length-replicate}
+use types.Run.{OneOf, miss}
+use denote.Enum.Declared.{tagOf}
 use Rattle.curves.specs.Pairs.{Pair, pairOf}
 use Rattle.curves.specs.Rounds.{whole, Arrives}
 use Rattle.curves.specs.Questions.{AllYes, FirstNo}
 use Rattle.curves.specs.Theorems.{Closes}
 use Rattle.bounds.specs.Bounds.{maxHorizon, pairQuestions}
-use Rattle.closure.specs.Closing.{closingQuestions, ClosingAnswer, refusedClosing, givenClosing, closing}
+use Rattle.closure.specs.declared.Closing.{Closing}
+use Rattle.closure.specs.declared.Closing.the-variants.{Closed, UpperLength, LowerLength, ResultLength, FigureLimit, NoClosure}
+use Rattle.closure.proofs.Closing as the-closing
+use Rattle.closure.specs.Closing.{closingQuestions, ClosingAnswer, refusedClosing, closing}
+use Rattle.closure.specs.Answers.{closingNumber, closingRounds, closingAnswer}
 use Rattle.closure.specs.Theorems.{PassesFour, room}
 use Rattle.closure.proofs.Said.{refused-is, closed-is, cases}
 
@@ -15,35 +22,82 @@ module _ (p : Pair) where
       let wide = length-replicate {A = ℕ} maxHorizon 0 in
       (ys .0, (ys .1 .0, ((omega (arith, wide, ys .0 .1), omega (arith, wide, ys .0 .1)), (ys .1 .1 .0, tt))))
 
-  -- Question 1, 2 or 4 is the first that is answered no; or they are answered yes, and the rounds arrive at a closure or at none.
-  abbrev pub Refused : Type 0
-  Refused = (n : ℕ) × FirstNo (pairQuestions p) n × (closing p room ≡ refusedClosing n room)
-
-  abbrev pub Crosses : Type 0
-  Crosses = AllYes (pairQuestions p) × (¬ Closes p) × (closing p room ≡ refusedClosing 5 room)
-
-  abbrev pub Given : Type 0
-  Given =
-      AllYes (pairQuestions p) × ((n : ℕ) × (q : Pair) × Arrives whole p n q × (closing p room ≡ givenClosing n q room))
-
-  pub in-room : Refused ⊎ Crosses ⊎ Given
-  in-room = ⊎-elim (λ (n, f). refused n f) (λ (ok, c). inr (inr (given ok c))) (cases p room)
-    where
-      given : PassesFour p room → Closes p → Given
-      given ok (n, q, a) = ((ok .0, (ok .1 .0, (ok .1 .1 .1 .0, tt))), (n, q, a, closed-is p room n q ok a))
-
-      refused : (n : ℕ) → FirstNo (closingQuestions p room) n → Refused ⊎ Crosses ⊎ Given
-      refused n (inl a) = inl (n, inl a, refused-is p room n (inl a))
-      refused n (inr (y, inl a)) = inl (n, inr (y, inl a), refused-is p room n (inr (y, inl a)))
-      refused n (inr (y, inr (z, inl a))) =
-          let wide = length-replicate {A = ℕ} maxHorizon 0 in absurd (a .1 (omega (arith, wide, y .1), omega (arith, wide, y .1)))
-      refused n (inr (y, inr (z, inr (u, inl a)))) =
-          inl (n, inr (y, inr (z, inl a)), refused-is p room n (inr (y, inr (z, inr (u, inl a)))))
-      refused n (inr (y, inr (z, inr (u, inr (v, inl (e, no₅)))))) =
-          inr (inl ((y, (z, (v, tt))), no₅, rw e at (refused-is p room n (inr (y, inr (z, inr (u, inr (v, inl (e, no₅)))))))))
-      refused n (inr (y, inr (z, inr (u, inr (v, inr (c, f)))))) = absurd f
-
   -- Lists of zeros, lent for results, are such room.
   pub in-zeros : (a : ClosingAnswer) (us ls : List ℕ) → us ≡ replicate maxHorizon 0 → ls ≡ replicate maxHorizon 0
       → a ≡ closing p (pairOf us ls) → a ≡ closing p room
   in-zeros a us ls u l e = e ∙ (λ i. closing p (pairOf (u i) (l i)))
+
+  -- ---- what each answer tells of the pair
+  abbrev pub Told : Closing → Type 0
+  Told (Closed n) = AllYes (pairQuestions p) × ((q : Pair) × Arrives whole p n q)
+  Told UpperLength = FirstNo (pairQuestions p) 1
+  Told LowerLength = FirstNo (pairQuestions p) 2
+  Told ResultLength = ⊥
+  Told FigureLimit = FirstNo (pairQuestions p) 4
+  Told NoClosure = AllYes (pairQuestions p) × (¬ Closes p)
+
+  -- Question n is the first that is answered no, with the pair's own apart.
+  abbrev No : ℕ → Type 0
+  No n = FirstNo (pairQuestions p) n ⊎ ((n ≡ 5) × AllYes (pairQuestions p) × (¬ Closes p))
+
+  no-three : (n : ℕ) → FirstNo (closingQuestions p room) n → No n
+  no-three n (inl a) = inl (inl a)
+  no-three n (inr (y, inl a)) = inl (inr (y, inl a))
+  no-three n (inr (y, inr (z, inl a))) =
+      let wide = length-replicate {A = ℕ} maxHorizon 0 in absurd (a .1 (omega (arith, wide, y .1), omega (arith, wide, y .1)))
+  no-three n (inr (y, inr (z, inr (u, inl a)))) = inl (inr (y, inr (z, inl a)))
+  no-three n (inr (y, inr (z, inr (u, inr (v, inl (e, no₅)))))) = inr (e, (y, (z, (v, tt))), no₅)
+  no-three n (inr (y, inr (z, inr (u, inr (v, inr (c, f)))))) = absurd f
+
+  -- The numbers of the pair's own.
+  numbered : (n : ℕ) → FirstNo (pairQuestions p) n → (1 ≤ n) × (¬ (n ≡ 3)) × (¬ (n ≡ 5))
+  numbered n (inl (e, f)) = (omega arith, (λ z. omega arith), λ z. omega arith)
+  numbered n (inr (y, inl (e, f))) = (omega arith, (λ z. omega arith), λ z. omega arith)
+  numbered n (inr (y, inr (z, inl (e, f)))) = (omega arith, (λ z. omega arith), λ z. omega arith)
+  numbered n (inr (y, inr (z, inr (u, f)))) = absurd f
+
+  own-told : (c : Closing) → FirstNo (pairQuestions p) (closingNumber c) → Told c
+  own-told (Closed n) f = absurd (omega (arith, numbered 0 f .0))
+  own-told UpperLength f = f
+  own-told LowerLength f = f
+  own-told ResultLength f = absurd (numbered 3 f .1 refl)
+  own-told FigureLimit f = f
+  own-told NoClosure f = absurd (numbered 5 f .2 refl)
+
+  fifth-told : (c : Closing) → closingNumber c ≡ 5 → AllYes (pairQuestions p) → ¬ Closes p → Told c
+  fifth-told (Closed n) e ys no₅ = absurd (omega arith)
+  fifth-told UpperLength e ys no₅ = absurd (omega arith)
+  fifth-told LowerLength e ys no₅ = absurd (omega arith)
+  fifth-told ResultLength e ys no₅ = absurd (omega arith)
+  fifth-told FigureLimit e ys no₅ = absurd (omega arith)
+  fifth-told NoClosure e ys no₅ = (ys, no₅)
+
+  closed-told : (c : Closing) → closingNumber c ≡ 0 → AllYes (pairQuestions p) → (q : Pair) → Arrives whole p (closingRounds c) q → Told c
+  closed-told (Closed n) e ys q a = (ys, (q, a))
+  closed-told UpperLength e ys q a = absurd (omega arith)
+  closed-told LowerLength e ys q a = absurd (omega arith)
+  closed-told ResultLength e ys q a = absurd (omega arith)
+  closed-told FigureLimit e ys q a = absurd (omega arith)
+  closed-told NoClosure e ys q a = absurd (omega arith)
+
+  pub told : (c : Closing) (left : Pair) → closingAnswer c left ≡ closing p room → Told c
+  told c left e = ⊎-elim (λ (n, f). no n (e ∙ refused-is p room n f) (no-three n f)) (λ (ok, k). yes-told ok k) (cases p room)
+    where
+      no : (n : ℕ) → closingAnswer c left ≡ refusedClosing n room → No n → Told c
+      no n k (inl f) = own-told c (subst (FirstNo (pairQuestions p)) (sym (ap (λ a. a .number) k)) f)
+      no n k (inr (five, ys, no₅)) = fifth-told c (ap (λ a. a .number) k ∙ five) ys no₅
+
+      yes-told : PassesFour p room → Closes p → Told c
+      yes-told ok (n, q, a) =
+          let k = e ∙ closed-is p room n q ok a in
+          closed-told c (ap (λ r. r .number) k) (ok .0, (ok .1 .0, (ok .1 .1 .1 .0, tt))) q
+          (subst (λ m. Arrives whole p m q) (sym (ap (λ r. r .rounds) k)) a)
+
+-- An arm for the cases that are left when 1, 2, 4 and the closure have theirs.
+pub others : (P : Closing → Type 0) → P ResultLength → P NoClosure → (c : Closing) → OneOf (3 ∷ 5 ∷ []) (tagOf the-closing.the-type c) → P c
+others P a b (Closed n) m = absurd (miss (3 ∷ 5 ∷ []) 0 tt m)
+others P a b UpperLength m = absurd (miss (3 ∷ 5 ∷ []) 1 tt m)
+others P a b LowerLength m = absurd (miss (3 ∷ 5 ∷ []) 2 tt m)
+others P a b ResultLength m = a
+others P a b FigureLimit m = absurd (miss (3 ∷ 5 ∷ []) 4 tt m)
+others P a b NoClosure m = b

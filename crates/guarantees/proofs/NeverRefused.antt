@@ -35,7 +35,7 @@ use Rattle.generator.specs.Answers.{sendingReply}
 use Rattle.generator.specs.Promises.{GeneratorOpened}
 use Rattle.generator.specs.Calls.{Call, ticked, ranged, Calls, stateAfter, countsSent}
 use Rattle.generator.proofs.Said.{range-answer, ranging-bad, ranging-range, generator-next}
-use Rattle.generator.proofs.Opening.{opening-yes, opening-fifteenth, opened-yes, opened-causal}
+use Rattle.generator.proofs.Opening.{opening-yes, opening-fifteenth, opened-from}
 use Rattle.guarantees.specs.Exact.{Answers, AllPass}
 use Rattle.guarantees.specs.NeverRefused.{GeneratorOpens, GivenBack, OpensIffGivenBack, FifteenIffNotGivenBack, WasOpened, NotRefused}
 use Rattle.guarantees.specs.NeverRefused.{OpenedNeverRefused, Reached, NoCountOnlyUnreached, SendsIffExtendable, SendsIffPasses}
@@ -56,7 +56,7 @@ back-causal p found e =
 
 pub opens-iff-given-back : OpensIffGivenBack
 opens-iff-given-back p found wide = (
-  (λ o. let ys = opened-yes p o in given-back p found (ys .0, (ys .1 .0, (wide, (ys .1 .1 .0, tt)))) (opened-causal p o)),
+  (λ o. let (ys, c) = opened-from p o in given-back p found (ys .0, (ys .1 .0, (wide, (ys .1 .1 .0, tt)))) c),
   λ e.
       let ok : PassesFour p found = gives-passes p found (ap (λ a. a .number) e) .0 in
       sym (opening-yes p (ok .0, (ok .1 .0, (ok .1 .1 .1 .0, tt))) (back-causal p found e)),
@@ -71,10 +71,10 @@ fifteen-iff-not-given-back p found ok = (
 -- ---- a pair that a generator was opened on
 module _ (p : Pair) (o : GeneratorOpens p) where
   yes-p : AllYes (pairQuestions p)
-  yes-p = opened-yes p o
+  yes-p = opened-from p o .0
 
   causal : Causal p
-  causal = opened-causal p o
+  causal = opened-from p o .1
 
   asked : opening p ≡ result tt
   asked = sym (asking-yes p yes-p)

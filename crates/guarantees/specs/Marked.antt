@@ -1,18 +1,23 @@
--- Document 01's marked figures ("Figures to try"): one list of cases.
+-- Document 01's marked figures ("Figures to try"): one list of cases. The one of 0, 2, 1, 0, 2, 0 is the monitor's by request P3; where document
+-- 01 has 13 after that start, it is in a state that is built by hand.
 use Prim.Native.Nat.{ℕ, _≤_}
 use mathlib.Core.Path.{_≡_}
-use mathlib.Core.List.{List, [], _∷_, _++_}
+use mathlib.Core.List.{List, [], _∷_, _++_, map}
 use lib.ListN.{length}
 use Rattle.laws.specs.Tests.{Each}
 use Rattle.curves.specs.Pairs.{Pair, pairOf, horizon, Equal}
 use Rattle.curves.specs.Conformance.{Conforms}
-use Rattle.curves.specs.Questions.{Reply, result, refusal}
+use Rattle.curves.specs.Questions.{result, refusal}
 use Rattle.closure.specs.Closing.{refusedClosing, givenClosing, closing}
 use Rattle.csv.specs.Text.{Bytes, comma, crlf, header}
 use Rattle.constraints.specs.Theorems.{GivesPair, givenPair}
 use Rattle.history.specs.States.{View}
-use Rattle.history.specs.Opening.{opening, fresh}
-use Rattle.generator.specs.Generating.{RangeAnswer, ranging, sentFrom, sending}
+use Rattle.history.specs.Opening.{fresh}
+use Rattle.monitor.specs.Monitoring.{lost, alreadyFailed}
+use Rattle.monitor.specs.Opening.{monitorOpening, freshMonitor}
+use Rattle.monitor.specs.Calls.{rulings}
+use Rattle.generator.specs.Generating.{RangeAnswer, ranging, chosen, sending}
+use Rattle.generator.specs.Opening.{generatorOpening}
 use Rattle.generator.specs.Calls.{addedAll}
 
 -- `3,0,3` and `5,5,9` below the header line.
@@ -26,8 +31,12 @@ pub data Case : Type 0 where
   closes : Pair → ℕ → Pair → Case
   -- Closing the pair is refused with 5.
   refuses : Pair → Case
-  -- The start conforms to the pair; a generator that was opened on the pair and has sent the start shows this range, or is refused so.
-  goesOn : Pair → List ℕ → Reply RangeAnswer → Case
+  -- The start conforms to the pair; a generator that was opened on the pair and has sent the start shows this range.
+  goesOn : Pair → List ℕ → RangeAnswer → Case
+  -- The start, of a first count and others, conforms to the pair; a monitor that was opened on the pair says 'lost' at its first tick.
+  losesFirst : Pair → ℕ → List ℕ → Case
+  -- The start conforms to the pair, on which no generator opens. A state built by hand that holds the start's last ticks is refused with 13.
+  stops : Pair → List ℕ → Case
 
 -- What a case says, whatever result lists of at least H entries hold.
 abbrev pub CaseHolds : Case → Type 0
@@ -37,9 +46,22 @@ CaseHolds (closes p n q) =
     (found : Pair) → horizon p ≤ length (found .upper) → horizon p ≤ length (found .lower) → closing p found ≡ givenClosing n q found
 CaseHolds (refuses p) =
     (found : Pair) → horizon p ≤ length (found .upper) → horizon p ≤ length (found .lower) → closing p found ≡ refusedClosing 5 found
-CaseHolds (goesOn p xs a) =
+CaseHolds (goesOn p xs b) =
     let sent : View = addedAll (fresh p) xs in
-    (opening p ≡ result tt) × Conforms p xs × (ranging sent ≡ a) × ((choice : ℕ) → sending sent choice ≡ sentFrom a choice)
+    (generatorOpening p ≡ result tt)
+    × Conforms p xs
+    × (ranging sent ≡ result b)
+    × ((choice : ℕ) → sending sent choice ≡ result (chosen b choice))
+CaseHolds (losesFirst p x xs) =
+    (monitorOpening p ≡ result tt)
+    × Conforms p (x ∷ xs)
+    × (rulings (freshMonitor p) (x ∷ xs) ≡ result lost ∷ map (λ _. result alreadyFailed) xs)
+CaseHolds (stops p xs) =
+    let held : View = addedAll (fresh p) xs in
+    (generatorOpening p ≡ refusal 15)
+    × Conforms p xs
+    × (ranging held ≡ refusal 13)
+    × ((choice : ℕ) → sending held choice ≡ refusal 13)
 
 unfoldable pub markedCases : List Case
 markedCases =
@@ -52,9 +74,10 @@ markedCases =
     ∷ closes (pairOf (2 ∷ 3 ∷ 5 ∷ 5 ∷ []) (0 ∷ 0 ∷ 0 ∷ 3 ∷ [])) 1 (pairOf (2 ∷ 3 ∷ 5 ∷ 5 ∷ []) (0 ∷ 0 ∷ 1 ∷ 3 ∷ []))
     ∷ reads publishedTriples (pairOf (3 ∷ 6 ∷ 3 ∷ 12 ∷ 9 ∷ []) (0 ∷ 0 ∷ 0 ∷ 0 ∷ 5 ∷ []))
     ∷ closes (pairOf (3 ∷ 6 ∷ 3 ∷ 12 ∷ 9 ∷ []) (0 ∷ 0 ∷ 0 ∷ 0 ∷ 5 ∷ [])) 4 (pairOf (1 ∷ 2 ∷ 3 ∷ 4 ∷ 5 ∷ []) (1 ∷ 2 ∷ 3 ∷ 4 ∷ 5 ∷ []))
-    ∷ goesOn (pairOf (3 ∷ 6 ∷ 3 ∷ 12 ∷ 9 ∷ []) (0 ∷ 0 ∷ 0 ∷ 0 ∷ 5 ∷ [])) (0 ∷ 2 ∷ 1 ∷ 0 ∷ 2 ∷ 0 ∷ []) (refusal 13)
-    ∷ goesOn (pairOf (2 ∷ 3 ∷ 5 ∷ 5 ∷ []) (0 ∷ 0 ∷ 1 ∷ 3 ∷ [])) (2 ∷ 1 ∷ []) (result (record { lo = 0; hi = 2 }))
-    ∷ goesOn (pairOf (2 ∷ 3 ∷ 5 ∷ 5 ∷ []) (0 ∷ 0 ∷ 1 ∷ 3 ∷ [])) (2 ∷ 1 ∷ 0 ∷ 2 ∷ []) (result (record { lo = 0; hi = 1 }))
+    ∷ losesFirst (pairOf (3 ∷ 6 ∷ 3 ∷ 12 ∷ 9 ∷ []) (0 ∷ 0 ∷ 0 ∷ 0 ∷ 5 ∷ [])) 0 (2 ∷ 1 ∷ 0 ∷ 2 ∷ 0 ∷ [])
+    ∷ stops (pairOf (3 ∷ 6 ∷ 3 ∷ 12 ∷ 9 ∷ []) (0 ∷ 0 ∷ 0 ∷ 0 ∷ 5 ∷ [])) (0 ∷ 2 ∷ 1 ∷ 0 ∷ 2 ∷ 0 ∷ [])
+    ∷ goesOn (pairOf (2 ∷ 3 ∷ 5 ∷ 5 ∷ []) (0 ∷ 0 ∷ 1 ∷ 3 ∷ [])) (2 ∷ 1 ∷ []) (record { lo = 0; hi = 2 })
+    ∷ goesOn (pairOf (2 ∷ 3 ∷ 5 ∷ 5 ∷ []) (0 ∷ 0 ∷ 1 ∷ 3 ∷ [])) (2 ∷ 1 ∷ 0 ∷ 2 ∷ []) (record { lo = 0; hi = 1 })
     ∷ []
 
 abbrev pub MarkedFigures : Type 0

@@ -1,7 +1,9 @@
 -- `monitor::opening_for` meets its contract: in the last arm closing was refused with 5, or with 3.
 -- Assumes nothing.
-use borrow.Author.Needs.{needs}
-use Rattle.monitor.proofs.Opening.{not-closed}
+use Rattle.laws.proofs.Base.{_≡_, refl, needs}
+use Rattle.closure.proofs.Room.{others}
+use Rattle.monitor.specs.declared.MonitorOpening.the-variants.{NoClosure}
+use Rattle.monitor.specs.Steps.{monitorOpeningFor}
 use Rattle.monitor.proofs.opening_for.Statement.{statement}
 use Rattle.monitor.proofs.opening_for.Tie as tie
 
@@ -17,4 +19,4 @@ opening-for-spec =
     (λ c. search needs)
     (λ c. search needs)
     (λ c. search needs)
-    (λ c. not-closed (c .before .args .closing) (c .match .keys5)))
+    (λ c. others (λ k. NoClosure ≡ monitorOpeningFor k) refl refl (c .before .args .closing) (c .match .keys5)))

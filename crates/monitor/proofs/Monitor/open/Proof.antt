@@ -1,6 +1,6 @@
 -- `monitor::Monitor::open` meets its promise: the answer is that of the questions and of closing, and the state follows from it.
 -- Assumes nothing.
-use Rattle.laws.proofs.Base.{ap, needs}
+use borrow.Author.Needs.{needs}
 use Rattle.curves.specs.Pairs.{Pair, pairOf}
 use Rattle.closure.proofs.Room.{in-zeros}
 use Rattle.monitor.proofs.Opening.{answers, begun-is}
@@ -16,8 +16,7 @@ returns c =
     let args = zeros .before .before .before .before .args in
     let p : Pair = pairOf (args .upper .now) (args .lower .now) in
     let closes = in-zeros p _ _ _ (zeros .before .zeros .ensures) (zeros .zeros2 .ensures) (close .ensures) in
-    let answer =
-    answers p (found .result) (close .result) (found .ensures) (ap (λ a. a .number) closes) in
+    let answer = answers p (found .result) (close .result) _ (found .ensures) closes in
     record {
       answer = answer;
       state =
