@@ -73,11 +73,9 @@ impl Generator {
     {
         let opening = ask_opening(upper, lower);
         let start = History::open(upper, lower);
-        let history = begin(opening, start.history);
-        OpenedGenerator {
-            opening,
-            state: Generator { history },
-        }
+        let history = start.history;
+        let state = begin(opening, history);
+        OpenedGenerator { opening, state }
     }
 
     // Sends the count that the choice leads to.
@@ -130,13 +128,16 @@ fn opening_for(closing: Closing) -> GeneratorOpening
     }
 }
 
-// The history that an opening hands out.
-fn begin(opening: GeneratorOpening, history: History) -> History
-    ensures { λ r. ⌜ r ≡ begunAs opening history ⌝ }
+// The generator that an opening hands out; that of a refused one fails question 12.
+fn begin(opening: GeneratorOpening, history: History) -> Generator
+    ensures { λ r. ⌜ r .history ≡ begunAs opening history ⌝ }
 {
     match opening {
-        GeneratorOpening::Opened => history,
-        _ => History::zero(),
+        GeneratorOpening::Opened => Generator { history },
+        _ => {
+            let zero = History::zero();
+            Generator { history: zero }
+        }
     }
 }
 

@@ -98,9 +98,9 @@ fresh-closed p q n ys a full =
     ap (λ c. monitorView (fresh p) c false) (full-same 0 (closureOf p room) q (given-even p room g) full same)
 
 holds : (c : Case) → Computed c → CaseHolds c
-holds (reads t q) (asked, same) =
+holds (reads t q) (yes-told, same) =
     λ found u l.
-    let ys = left (ask (textQuestions t)) asked in
+    let ys = left (ask (textQuestions t)) yes-told in
     let is : Equal (textPair t) q = left (same? (textPair t) q) same in
     let (rs, more) = yes-parts (recordQuestions [] (later t)) (question10 t ∷ []) (ys .1) in
     let h : horizonOf t ≡ horizon q = sym (length-table _ (horizonOf t)) ∙ is .horizons in

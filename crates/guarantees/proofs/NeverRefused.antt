@@ -13,16 +13,15 @@ use Rattle.curves.proofs.Asked.{no-refusal}
 use Rattle.curves.proofs.Figures.{full-same}
 use Rattle.curves.proofs.Closure.{one-more-tick, causal-takes-no-round, causal-iff-no-round}
 use Rattle.curves.proofs.Verdicts.{range-newest}
-use Rattle.bounds.specs.Bounds.{pairQuestions, RoomFor}
+use Rattle.bounds.specs.Bounds.{pairQuestions}
 use Rattle.bounds.proofs.Said.{asking-yes}
-use Rattle.closure.specs.Closing.{closing}
 use Rattle.closure.specs.Theorems.{PassesFour, GivesClosure, closureOf, room}
 use Rattle.closure.proofs.Said.{closed-is, gives-passes}
 use Rattle.closure.proofs.Room.{room-passes}
 use Rattle.closure.proofs.Given.{arrived, given-even}
 use Rattle.closure.proofs.Promised.{closure-passes, given-is-causal, conforms-iff-extendable, causal-iff-given-back}
 use Rattle.history.specs.States.{View, viewOf}
-use Rattle.history.specs.Opening.{opening, fresh, zeroHistory, Begun}
+use Rattle.history.specs.Opening.{opening, zeroHistory, Begun}
 use Rattle.history.proofs.Histories.{horizon-seen}
 use Rattle.monitor.specs.Monitoring.{MonitorView, judged}
 use Rattle.monitor.specs.Opening.{freshMonitor}
@@ -37,7 +36,7 @@ use Rattle.generator.specs.Calls.{Call, ticked, ranged, Calls, stateAfter, coun
 use Rattle.generator.proofs.Said.{range-answer, ranging-bad, ranging-range, generator-next}
 use Rattle.generator.proofs.Opening.{opening-yes, opening-fifteenth, opened-from}
 use Rattle.guarantees.specs.Exact.{Answers, AllPass}
-use Rattle.guarantees.specs.NeverRefused.{GeneratorOpens, GivenBack, OpensIffGivenBack, FifteenIffNotGivenBack, WasOpened, NotRefused}
+use Rattle.guarantees.specs.NeverRefused.{GeneratorOpens, GivenBack, OpensIffGivenBack, FifteenIffNotGivenBack, NotRefused}
 use Rattle.guarantees.specs.NeverRefused.{OpenedNeverRefused, Reached, NoCountOnlyUnreached, SendsIffExtendable, SendsIffPasses}
 use Rattle.guarantees.specs.NeverRefused.{OpensOnClosure, NeverRefused, PassesIffExtendable}
 use Rattle.guarantees.proofs.Held.{heldOf, held-fresh, held-legal, opened-positive}

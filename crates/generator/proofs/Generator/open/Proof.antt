@@ -7,8 +7,8 @@ use Rattle.generator.proofs.Generator.open.Tie as tie
 
 returns : tie.Need-returns
 returns c =
-    let asked = c .before .before .ask-opening in
-    let start = c .before .«open» in
+    let asked = c .before .before .before .ask-opening in
+    let start = c .before .before .«open» in
     record {
       answer = asked .ensures;
       history = rw (c .begin .ensures) (begun-is _ (start .result .history) (asked .result) (asked .ensures) (start .ensures .history));
