@@ -22,7 +22,7 @@ use Rattle.generator.specs.declared.GeneratorOpening.the-variants as ope
 use Rattle.generator.proofs.GeneratorOpening as the-opening
 use Rattle.generator.specs.Opening.{generatorOpening}
 use Rattle.generator.specs.Answers.{generatorOpeningReply}
-use Rattle.generator.specs.Steps.{generatorOpeningFor, begunAs}
+use Rattle.generator.specs.Steps.{generatorOpeningFor, historyFor}
 
 -- ---- the arms
 pub some-round : (n : ℕ) → ¬ (n ≡ 0) → opened.NotClosed ≡ generatorOpeningFor (closing.Closed n)
@@ -30,7 +30,7 @@ some-round zero e = absurd (e refl)
 some-round (suc n) e = refl
 
 pub begun-zero : (o : GeneratorOpening) (h z : History) → OneOf (1 ∷ 2 ∷ 3 ∷ 4 ∷ []) (tagOf the-opening.the-type o) → z ≡ zeroHistory
-    → z ≡ begunAs o h
+    → z ≡ historyFor o h
 begun-zero opened.Opened h z m e = absurd (miss (1 ∷ 2 ∷ 3 ∷ 4 ∷ []) 0 tt m)
 begun-zero opened.UpperLength h z m e = e
 begun-zero opened.LowerLength h z m e = e
@@ -73,7 +73,7 @@ module _ (p : Pair) where
 
 -- ---- the history
 pub begun-is : (p : Pair) (h : History) (o : GeneratorOpening) → generatorOpeningReply o ≡ generatorOpening p → Begun (opening p) p h
-    → Begun (generatorOpening p) p (begunAs o h)
+    → Begun (generatorOpening p) p (historyFor o h)
 begun-is p h opened.Opened e b = rw (← e) (subst (λ r. Begun r p h) (sym (asking-yes p (opened-from p (sym e) .0))) b)
 begun-is p h opened.UpperLength e b = rw (← e) refl
 begun-is p h opened.LowerLength e b = rw (← e) refl

@@ -29,12 +29,12 @@ generatorOpeningFor closing.FigureLimit = opening.FigureLimit
 generatorOpeningFor closing.NoClosure = opening.NotClosed
 
 -- The history that is handed out.
-abbrev pub begunAs : GeneratorOpening → History → History
-begunAs opening.Opened h = h
-begunAs opening.UpperLength h = zeroHistory
-begunAs opening.LowerLength h = zeroHistory
-begunAs opening.FigureLimit h = zeroHistory
-begunAs opening.NotClosed h = zeroHistory
+abbrev pub historyFor : GeneratorOpening → History → History
+historyFor opening.Opened h = h
+historyFor opening.UpperLength h = zeroHistory
+historyFor opening.LowerLength h = zeroHistory
+historyFor opening.FigureLimit h = zeroHistory
+historyFor opening.NotClosed h = zeroHistory
 
 -- ---- a tick
 -- The state's form matters where a count is sent.

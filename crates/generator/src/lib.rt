@@ -12,14 +12,15 @@ ghost use Rattle.generator.specs.Generating.{sentFrom, GeneratorNext};
 ghost use Rattle.generator.specs.Opening.{generatorOpening};
 ghost use Rattle.generator.specs.Answers.{generatorOpeningReply, rangeReply, sendingReply};
 ghost use Rattle.generator.specs.Promises.{GeneratorOpened, GeneratorTicked, GeneratorRanged};
-ghost use Rattle.generator.specs.Steps.{generatorOpeningFor, begunAs, Limited, Small, Shows, ChoosesWhere, AddsSent};
+ghost use Rattle.generator.specs.Steps.{generatorOpeningFor, historyFor, Limited, Small, Shows, ChoosesWhere, AddsSent};
 
 // Anyone may build one.
 pub struct Generator {
     pub history: History,
 }
 
-// What opening a generator answers: the state is ready, or one of document 01's questions, or request P3's, is the first that is answered no.
+// What opening a generator answers: the state is ready, or one of document 01's questions 1, 2 and 4 and request P3's 15 is the first that is
+// answered no.
 pub enum GeneratorOpening {
     Opened,
     // 1: the upper list is not 1 to 256 long.
@@ -43,7 +44,7 @@ pub enum Admissible {
     Range { lo: u32, hi: u32 },
     // 12: the state has no legal horizon, a figure above 16,776,960, or as many held ticks as its horizon or more.
     BadState,
-    // 13: no count keeps every window that ends at the next tick.
+    // 13: no count keeps every window that ends at the next tick. No opening and its ticks lead to such a state.
     NoCount,
 }
 
@@ -66,8 +67,8 @@ struct Limits {
 }
 
 impl Generator {
-    // A generator on the pair of `upper` and `lower`, entry 0 for the window of one tick, which must be closed; where the opening is
-    // refused, all of it is 0.
+    // A generator on the pair of `upper` and `lower`, entry 0 for the window of one tick, which must be its own closure; where the opening
+    // is refused, all of the state is 0.
     pub fn open(upper: &[u32], lower: &[u32]) -> OpenedGenerator
         ensures { λ r. ⌜ GeneratorOpened (pairOf (now (upper .entry)) (now (lower .entry))) r ⌝ }
     {
@@ -130,7 +131,7 @@ fn opening_for(closing: Closing) -> GeneratorOpening
 
 // The generator that an opening hands out; that of a refused one fails question 12.
 fn begin(opening: GeneratorOpening, history: History) -> Generator
-    ensures { λ r. ⌜ r .history ≡ begunAs opening history ⌝ }
+    ensures { λ r. ⌜ r .history ≡ historyFor opening history ⌝ }
 {
     match opening {
         GeneratorOpening::Opened => Generator { history },

@@ -126,6 +126,34 @@ unfolding markedCases publishedTriples passes? ask ⊎-map every every? decLe �
 marked-figures =
     let c : T true × T true = (tt, tt) in
     let closed : Pair = pairOf (1 ∷ 2 ∷ 3 ∷ 4 ∷ 5 ∷ []) (1 ∷ 2 ∷ 3 ∷ 4 ∷ 5 ∷ []) in
-    each-map Computed CaseHolds markedCases holds
-    (c, (c, (c, (c, (c, (c, (c, (c, (c, ((tt, refl, (4, closed, tt, refl, refl)),
-    ((tt, refl, refl, refl), ((tt, refl, refl, refl), ((tt, refl, refl, refl), tt)))))))))))))
+    each-map Computed CaseHolds markedCases holds (
+      c,
+      (
+        c,
+        (
+          c,
+          (
+            c,
+            (
+              c,
+              (
+                c,
+                (
+                  c,
+                  (
+                    c,
+                    (
+                      c,
+                      (
+                        (tt, refl, (4, closed, tt, refl, refl)),
+                        ((tt, refl, refl, refl), ((tt, refl, refl, refl), ((tt, refl, refl, refl), tt))),
+                      ),
+                    ),
+                  ),
+                ),
+              ),
+            ),
+          ),
+        ),
+      ),
+    )

@@ -1,5 +1,6 @@
 -- Demand 2, as request P2 leaves it: its first sentence is one about 'too many' and 'too few', and the generator is compared with the
--- counts that are neither. Its last sentence, on the closure, is closing's own (`GivesWhatArrives`, `ClosureIsArrivedAt`).
+-- counts that are neither; where a generator opens, these are the counts that pass (NeverRefused: `SendsIffPasses`). Its last sentence, on
+-- the closure, is closing's own (`GivesWhatArrives`, `ClosureIsArrivedAt`).
 use Prim.Native.Nat.{ℕ, _≤_}
 use mathlib.Core.Path.{_≡_}
 use mathlib.Core.Bool.{false}
@@ -116,7 +117,7 @@ pub record SmallestAndLargest (w : MonitorView) (b : RangeAnswer) : Type 0 where
 abbrev pub RangeShowsExtremes : Type 0
 RangeShowsExtremes = (w : MonitorView) → LegalUnfailed w → (b : RangeAnswer) → (ranging (w .view) ≡ result b) ↔ SmallestAndLargest w b
 
--- From fresh openings the lists of counts that can be sent are the conforming ones.
+-- From a state with no tick, on any pair that passes questions 1, 2 and 4, the lists of counts that can be sent are the conforming ones.
 abbrev pub SendsConforming : Type 0
 SendsConforming =
     (p : Pair) → opening p ≡ result tt → (xs : List ℕ)

@@ -28,7 +28,7 @@ pub struct History {
     pub ticks: [u32; MAX_HORIZON],
 }
 
-// What an opening answers: the state is ready, or document 01's question is answered no.
+// What opening a history answers: it is ready, or document 01's question is answered no. A monitor's and a generator's opening ask more.
 pub enum Opening {
     Opened,
     // 1: the upper list is not 1 to 256 long.
