@@ -1,6 +1,7 @@
--- Closing with room for the closure of every horizon: question 3 is answered yes, so 1, 2, 4 and 5 decide. What an opening asks closing for.
+-- Closing with room for the closure of every horizon, as openings ask for it: question 3 is answered yes, so 1, 2, 4 and 5 decide.
 -- Assumes nothing.
-use Rattle.laws.proofs.Base.{ℕ, _≤_, _≡_, refl, sym, ap, _∙_, subst, List, [], _∷_, _⊎_, inl, inr, ⊎-elim, arith, replicate, length-replicate}
+use Rattle.laws.proofs.Base.{ℕ, _≤_, _≡_, refl, sym, ap, _∙_, subst, List, [], _∷_, _⊎_, inl, inr, ⊎-elim, arith, replicate}
+use Rattle.laws.proofs.Base.{length-replicate}
 use types.Run.{OneOf, miss}
 use denote.Enum.Declared.{tagOf}
 use Rattle.curves.specs.Pairs.{Pair, pairOf}

@@ -1,5 +1,5 @@
 -- The definitions of specs/ at small examples: each holds by computation. Assumes nothing.
-use Rattle.laws.proofs.Base.{_≡_, refl, [], _∷_, ⊎-map, Dec·and, decLe, decLt, ℕ-discrete}
+use Rattle.laws.proofs.Base.{_≡_, refl, [], _∷_, map, ⊎-map, Dec·and, decLe, decLt, ℕ-discrete}
 use Rattle.laws.specs.Ranges.{fold, table}
 use Rattle.laws.proofs.Search.{every, every?}
 use Rattle.curves.specs.Streams.{sum}
@@ -26,27 +26,19 @@ five-by-three : sendings some (5 ∷ 5 ∷ []) ≡ result 2 ∷ result 0 ∷ []
 unfolding sendings ranging ask legal? ⊎-map every every? Dec·and decLe decLt figure range? range-from fold sum
 five-by-three = refl
 
--- Closed curves open.
-opens : generatorOpening pair ≡ result tt
-unfolding generatorOpening ask ⊎-map every every? Dec·and decLe ℕ-discrete figure causal? crossed? equal? fold table newFigure round figuresOf
-opens = refl
-
--- A figure that says nothing is refused, although every start that conforms can be extended: two ticks cannot have 3 where one has at most
--- 1, and they have 2 at least where one has 1.
-loose-ceiling : generatorOpening (pairOf (1 ∷ 3 ∷ []) (0 ∷ 0 ∷ [])) ≡ refusal 15
-unfolding generatorOpening ask ⊎-map every every? Dec·and decLe ℕ-discrete figure causal? crossed? equal? fold table newFigure round figuresOf
-loose-ceiling = refl
-
-loose-least : generatorOpening (pairOf (2 ∷ 4 ∷ []) (1 ∷ 1 ∷ [])) ≡ refusal 15
-unfolding generatorOpening ask ⊎-map every every? Dec·and decLe ℕ-discrete figure causal? crossed? equal? fold table newFigure round figuresOf
-loose-least = refl
-
--- Figures that cross have no closure: 15 too, and not 5. A round changes none of these.
-crossing : generatorOpening (pairOf (2 ∷ []) (7 ∷ [])) ≡ refusal 15
-unfolding generatorOpening ask ⊎-map every every? Dec·and decLe ℕ-discrete figure causal? crossed? equal? fold table newFigure round figuresOf
-crossing = refl
-
--- 4 comes first.
-limit-first : generatorOpening (pairOf (16_776_961 ∷ []) (16_776_962 ∷ [])) ≡ refusal 4
-unfolding generatorOpening ask ⊎-map every every? Dec·and decLe ℕ-discrete figure
-limit-first = refl
+-- Closed curves open. A figure that says nothing is refused, although every start that conforms can be extended: two ticks cannot have 3
+-- where one has at most 1, and they have 2 at least where one has 1. Figures that cross have no closure: 15 too, and not 5, although a round
+-- changes none of these. 4 comes first.
+openings
+    : map generatorOpening (
+    pair
+    ∷ pairOf (1 ∷ 3 ∷ []) (0 ∷ 0 ∷ [])
+    ∷ pairOf (2 ∷ 4 ∷ []) (1 ∷ 1 ∷ [])
+    ∷ pairOf (2 ∷ []) (7 ∷ [])
+    ∷ pairOf (16_776_961 ∷ []) (16_776_962 ∷ [])
+    ∷ []
+    )
+    ≡ result tt ∷ refusal 15 ∷ refusal 15 ∷ refusal 15 ∷ refusal 4 ∷ []
+unfolding generatorOpening ask ⊎-map every every? Dec·and decLe ℕ-discrete figure causal? crossed? equal? fold table newFigure round
+    figuresOf
+openings = refl

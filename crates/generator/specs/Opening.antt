@@ -1,5 +1,4 @@
--- Opening a generator (document 01, questions 1, 2 and 4; 15 by request P3, since it is opened on closed figures only): two lists in, a state
--- out.
+-- Opening a generator (document 01, questions 1, 2 and 4; 15 by request P3, as it opens on closed figures only): two lists in, a state out.
 use mathlib.Core.List.{List, [], _∷_, _++_}
 use Rattle.curves.specs.Pairs.{Pair}
 use Rattle.curves.specs.Questions.{Question, Reply, replyTo}

@@ -19,8 +19,8 @@ pub struct Generator {
     pub history: History,
 }
 
-// What opening a generator answers: the state is ready, or one of document 01's questions 1, 2 and 4 and request P3's 15 is the first that is
-// answered no.
+// What opening a generator answers: the state is ready, or one of document 01's questions, or request P3's 15, is the first that is answered
+// no.
 pub enum GeneratorOpening {
     Opened,
     // 1: the upper list is not 1 to 256 long.
@@ -109,8 +109,8 @@ fn ask_opening(upper: &[u32], lower: &[u32]) -> GeneratorOpening
     opening_for(closure::close(upper, lower, &mut closed_upper, &mut closed_lower))
 }
 
-// What an opening answers to what closing answered: a pair that takes no round is its own closure. 3 cannot come, as there is room for every
-// horizon.
+// What an opening answers to what closing answered: a pair that takes no round is its own closure. 3 cannot come, as there is room for
+// every horizon.
 fn opening_for(closing: Closing) -> GeneratorOpening
     ensures { λ r. ⌜ r ≡ generatorOpeningFor closing ⌝ }
 {

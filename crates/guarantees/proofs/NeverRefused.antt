@@ -1,5 +1,5 @@
--- Request P3, and demand 3's last two sentences: a generator that was opened is never refused, over any list of calls, and a closure opens one.
--- Assumes nothing.
+-- Request P3, and demand 3's last two sentences: a generator that was opened is never refused, over any list of calls, and a closure opens
+-- one. Assumes nothing.
 use Rattle.laws.proofs.Base.{ℕ, _-_, _≤_, _≡_, refl, sym, ap, _∙_, subst, List, [], _∷_, _++_, append-assoc, append-nil, _↔_, arith}
 use mathlib.Core.Logic.{Iff·trans, Iff·symm}
 use Rattle.laws.specs.Tests.{Each}

@@ -1,5 +1,5 @@
--- Document 01's marked figures ("Figures to try"): one list of cases. The one of 0, 2, 1, 0, 2, 0 is the monitor's by request P3; where document
--- 01 has 13 after that start, it is in a state that is built by hand.
+-- Document 01's marked figures ("Figures to try"): one list of cases. By request P3 that of the start 0, 2, 1, 0, 2, 0 is the monitor's, and
+-- the 13 after it is that of a state built by hand.
 use Prim.Native.Nat.{ℕ, _≤_}
 use mathlib.Core.Path.{_≡_}
 use mathlib.Core.List.{List, [], _∷_, _++_, map}
@@ -35,7 +35,7 @@ pub data Case : Type 0 where
   goesOn : Pair → List ℕ → RangeAnswer → Case
   -- The start, of a first count and others, conforms to the pair; a monitor that was opened on the pair says 'lost' at its first tick.
   losesFirst : Pair → ℕ → List ℕ → Case
-  -- The start conforms to the pair, on which no generator opens. A state built by hand that holds the start's last ticks is refused with 13.
+  -- The start conforms to the pair, on which no generator opens; a state built by hand that holds its last ticks is refused with 13.
   stops : Pair → List ℕ → Case
 
 -- What a case says, whatever result lists of at least H entries hold.

@@ -1,4 +1,4 @@
--- `generator::opening_for` meets its contract: a closure after no round, or after some; in the last arm closing was refused with 5, or with 3.
+-- `generator::opening_for` meets its contract: no round was taken, or some were; in the last arm closing was refused with 5, or with 3.
 -- Assumes nothing.
 use Rattle.laws.proofs.Base.{_≡_, refl, subst⁻¹, needs}
 use Rattle.closure.specs.declared.Closing.{Closing}
