@@ -27,8 +27,8 @@ unfolding sendings ranging ask legal? ⊎-map every every? Dec·and decLe decLt 
 five-by-three = refl
 
 -- Closed curves open. A figure that says nothing is refused, although every start that conforms can be extended: two ticks cannot have 3
--- where one has at most 1, and they have 2 at least where one has 1. Figures that cross have no closure: 15 too, and not 5, although a round
--- changes none of these. 4 comes first.
+-- where one has at most 1, and they have 2 at least where one has 1. Figures that cross have no closure: 15 too, and not 5, although no
+-- round changes these. 4 comes first.
 openings
     : map generatorOpening (
     pair

@@ -19,8 +19,8 @@ pub struct Generator {
     pub history: History,
 }
 
-// What opening a generator answers: the state is ready, or one of document 01's questions, or request P3's 15, is the first that is answered
-// no.
+// What opening a generator answers: the state is ready, or one of document 01's questions, or request P3's 15, is the first that is
+// answered no.
 pub enum GeneratorOpening {
     Opened,
     // 1: the upper list is not 1 to 256 long.

@@ -1,5 +1,5 @@
--- Document 01's marked figures ("Figures to try"): one list of cases. By request P3 that of the start 0, 2, 1, 0, 2, 0 is the monitor's, and
--- the 13 after it is that of a state built by hand.
+-- Document 01's marked figures ("Figures to try"): one list of cases. By request P3 that of the start 0, 2, 1, 0, 2, 0 is the monitor's,
+-- and the 13 after it is that of a state built by hand.
 use Prim.Native.Nat.{ℕ, _≤_}
 use mathlib.Core.Path.{_≡_}
 use mathlib.Core.List.{List, [], _∷_, _++_, map}
