@@ -2,7 +2,8 @@
 
 use crate::faults::Fault::*;
 use crate::faulty_closing::{Faulty, Figures};
-use crate::subject::NO_COUNT;
+use crate::states::{Sent, State};
+use crate::subject::{NO_COUNT, REFUSED};
 
 /// A pair and the ticks held.
 pub struct History {
@@ -97,5 +98,24 @@ impl Faulty {
             .iter_mut()
             .for_each(|entry| *entry = self.generator_tick(&mut history, *entry));
         0
+    }
+
+    /// A tick on a state built by hand.
+    pub fn send_state(&self, state: &State, choice: u32) -> Sent {
+        let stays = |answer: u32| Sent { answer, held: None };
+        if !state.has_sizes() || self.over_limit(&state.given().upper, &state.given().lower) {
+            return stays(REFUSED + 12);
+        }
+        let given = state.given();
+        let mut history = History {
+            given: Figures::new(&given.upper, &given.lower),
+            held: state.stream().to_vec(),
+        };
+        let answer = self.generator_tick(&mut history, choice);
+        let added = answer < REFUSED || history.held != state.stream();
+        Sent {
+            answer,
+            held: added.then_some(history.held),
+        }
     }
 }

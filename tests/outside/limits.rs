@@ -3,10 +3,10 @@
 
 use crate::pairs::{self, Pair};
 use crate::reference::Reference;
-use crate::states::{digest, drawn, Judged, State, CASES};
+use crate::states::{digest, drawn, Judged, Sent, State, CASES};
 use crate::streams::verdict;
 use crate::subject::{Subject, ALREADY_FAILED, LIMIT, LONGEST_HORIZON, LOST, PASSED, REFUSED};
-use crate::tally::{Tally, BOTH, BUILT, BUILT_LOOSER, BUILT_REJECTED, BUILT_TWELVE};
+use crate::tally::{Tally, BOTH, BUILT, BUILT_LOOSER, BUILT_REJECTED, BUILT_SENT, BUILT_TWELVE};
 
 /// As the run prints it.
 pub const NAME: &str = "lines of limits";
@@ -95,6 +95,7 @@ fn looser_somewhere(closed: &Pair, given: &Pair) -> bool {
 fn note(state: &State, count: u32, tally: &mut Tally) {
     let answer = state.judged(count).answer;
     tally.note(BUILT, if answer < REFUSED { answer / 1_000 } else { answer - REFUSED });
+    tally.note(BUILT_SENT, state.sent(count).answer.saturating_sub(REFUSED));
     if !state.has_sizes() {
         tally.note(BUILT_TWELVE, 0);
         return;
@@ -132,10 +133,10 @@ pub fn compare(stored: &str, tally: &mut Tally) -> Result<usize, String> {
     }
 }
 
-/// The first state on which a monitor's tick comes to something else than it must.
-pub fn told_apart(tick: impl Fn(&State, u32) -> Judged) -> Option<u64> {
+/// The first state on which a monitor's tick or a generator's comes to something else than it must.
+pub fn told_apart(judge: impl Fn(&State, u32) -> Judged, send: impl Fn(&State, u32) -> Sent) -> Option<u64> {
     (1..=CASES).find(|&case| {
-        let (state, count) = drawn(case);
-        tick(&state, count) != state.judged(count)
+        let (state, number) = drawn(case);
+        judge(&state, number) != state.judged(number) || send(&state, number) != state.sent(number)
     })
 }

@@ -63,7 +63,11 @@ fn catch(fault: Fault, seed: u64) -> Caught {
         }
     }
     if caught.first.is_none() {
-        let told = limits::told_apart(|state, count| Faulty { fault }.judge_state(state, count));
+        let subject = Faulty { fault };
+        let told = limits::told_apart(
+            |state, count| subject.judge_state(state, count),
+            |state, choice| subject.send_state(state, choice),
+        );
         caught.first = told.map(|case| (limits::NAME, case));
     }
     caught

@@ -3,7 +3,7 @@
 
 use crate::pairs::Pair;
 use crate::streams::{chosen, range, ruling};
-use crate::subject::{ALREADY_FAILED, LIMIT, LONGEST_HORIZON, PASSED, REFUSED};
+use crate::subject::{ALREADY_FAILED, LIMIT, LONGEST_HORIZON, NO_COUNT, PASSED, REFUSED};
 
 pub const CASES: u64 = 400;
 
@@ -86,6 +86,13 @@ pub struct Judged {
     pub answer: u32,
     pub failed: bool,
     /// The ticks that are held then, or nothing where the state comes back as it was, but for the mark.
+    pub held: Option<Vec<u32>>,
+}
+
+/// What a generator's tick comes to, with the same fields. Unlike one after an opening, it may be refused, with 12 or 13.
+#[derive(PartialEq)]
+pub struct Sent {
+    pub answer: u32,
     pub held: Option<Vec<u32>>,
 }
 
@@ -172,17 +179,32 @@ impl State {
         format!("{kind} {window} {} {history} {}", u8::from(failed), digests(&closed))
     }
 
-    /// A generator on the same history: lo and hi, what is sent, and the history. It has no closed figures.
-    pub fn sent_line(&self, choice: u32) -> String {
+    fn range(&self) -> Option<(u32, u32)> {
+        range(&self.given().upper, &self.given().lower, self.stream())
+    }
+
+    /// A generator on the same history. It has no closed figures.
+    pub fn sent(&self, choice: u32) -> Sent {
+        let refused = |answer: u32| Sent { answer, held: None };
         if !self.has_sizes() || self.given().over_limit() {
-            return format!("12 0 12 0 {}", self.history_line(None));
+            return refused(REFUSED + 12);
         }
-        match range(&self.given().upper, &self.given().lower, self.stream()) {
-            None => format!("13 0 13 0 {}", self.history_line(None)),
-            Some((lo, hi)) => {
-                let count = chosen(lo, hi, choice);
-                format!("{lo} {hi} 0 {count} {}", self.history_line(Some(self.held_with(count))))
-            }
+        self.range().map_or(refused(NO_COUNT), |(lo, hi)| {
+            let answer = chosen(lo, hi, choice);
+            let held = Some(self.held_with(answer));
+            Sent { answer, held }
+        })
+    }
+
+    /// Lo and hi, what is sent, and the history. A look is refused with the same number as a tick.
+    pub fn sent_line(&self, choice: u32) -> String {
+        let Sent { answer, held } = self.sent(choice);
+        let history = self.history_line(held);
+        if answer >= REFUSED {
+            let number = answer - REFUSED;
+            return format!("{number} 0 {number} 0 {history}");
         }
+        let (lo, hi) = self.range().unwrap_or_default();
+        format!("{lo} {hi} 0 {answer} {history}")
     }
 }

@@ -36,6 +36,7 @@ pub const BUILT: &str = "states by hand (0 to 4 verdicts, 12 refused)";
 pub const BUILT_TWELVE: &str = "12 for (0 sizes, 1 given figures, 2 closed ones alone)";
 pub const BUILT_REJECTED: &str = "many or few by hand (0 closed kept, 1 broken too)";
 pub const BUILT_LOOSER: &str = "looser closed figures by hand (0 passed, 4 lost)";
+pub const BUILT_SENT: &str = "generators by hand (0 sent, 12 or 13 refused)";
 pub const SENT: &str = "generator (0 sent, 13 no count)";
 pub const STOPPED: &str = "no count (0: in 10 ticks, 1: 100, 2: 300, 3: later)";
 pub const LO: &str = "generator, the window that settled lo (0: none)";
@@ -79,6 +80,7 @@ const DUE: &[(&str, &[u32])] = &[
     (BUILT_REJECTED, &[0, 1]),
     (BUILT_LOOSER, &[0, 4]),
     (BOTH, &[0, 1]),
+    (BUILT_SENT, &[0, 12, 13]),
     (SENT, &[0, 13]),
     (STOPPED, &[0, 1, 2]),
     (LO, &[0, 1, 2, 3, 8, 256]),
