@@ -4,7 +4,7 @@ use crate::random::Rng;
 use crate::subject::Subject;
 use crate::tally::Tally;
 use crate::workers::Work;
-use crate::{closings, known, lost, promises, reading, scripts};
+use crate::{closings, known, lost, promises, reading, scripts, sendings};
 
 pub struct Comparison {
     pub name: &'static str,
@@ -41,7 +41,7 @@ pub const COMPARISONS: &[Comparison] = &[
         name: "generator scripts",
         cases: 20_000,
         sample: 600,
-        one: scripts::compare_generator,
+        one: sendings::compare,
     },
     Comparison {
         name: PROMISES,

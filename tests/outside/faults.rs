@@ -1,9 +1,10 @@
 //! The mutants: one plain implementation with one fault each. Some faults are shown by no call over the boundary, as no state crosses it:
 //! a tick that is held though it was rejected, as a failed monitor answers 'already failed' whatever it holds; the order of 'too many' and
 //! 'too few', as no tick after one that passed is both; by which closed figures a tick is lost once the horizon is filled, or in a state
-//! that no opening made; and what is asked of a state. These are told apart on the states that the program `limits` is given, where the
-//! mark and the held ticks that come back are compared too. To judge by the given figures twice is, from outside, never to find a tick
-//! lost. Two faults are not among the mutants, since nothing shows them:
+//! that no opening made; what is asked of a state; and what a generator does where there is no count, as none that was opened comes to
+//! that. These are told apart on the states that the program `limits` is given, where the mark and the held ticks that come back are
+//! compared too. To judge by the given figures twice is, from outside, never to find a tick lost. Two faults are not among the mutants,
+//! since nothing shows them:
 //!
 //! - A difference cut off at 0, in a round. U d and L d are the old figures, which do not cross, so none is below 0 or above the limit.
 //!   For a least it changes nothing, as no old least is below 0. For a ceiling: where U (d + t) - L t is below 0, the new ceiling of t is
@@ -57,13 +58,27 @@ pub enum Fault {
     OpeningAsksNoLimit,
     OpeningAsksFourFirst,
     ScriptClearedOnRefusal,
-    GeneratorAsksFive,
     OpeningAsksFiveFirst,
     ClosesNothing,
     ClosesByOneRound,
     NeverFive,
     FiveForGivenCrossing,
     FiveForUnclosed,
+    OpensOnAny,
+    OpensOnNone,
+    GeneratorAsksFive,
+    OpensOnCrossing,
+    OpensUnlessCrossing,
+    OpensOnUnclosed,
+    ClosesByItself,
+    OwnUpperOnly,
+    OwnLowerOnly,
+    OwnSumsOnly,
+    OwnDifferencesOnly,
+    OwnButHorizon,
+    FifteenBeforeFour,
+    FifteenForRefusals,
+    SendsAndRefuses,
     // Monitor.
     EmptyTicksBefore,
     Recovers,
@@ -187,13 +202,27 @@ pub const MUTANTS: &[(Fault, &str)] = &[
     (OpeningAsksNoLimit, "opening: the limit not asked"),
     (OpeningAsksFourFirst, "opening: 4 asked before 2"),
     (ScriptClearedOnRefusal, "opening: script cleared on a refusal"),
-    (GeneratorAsksFive, "opening a generator: crossed figures refused"),
     (OpeningAsksFiveFirst, "opening a monitor: 5 asked before 4"),
     (ClosesNothing, "opening a monitor: nothing closed, and never 5"),
     (ClosesByOneRound, "opening a monitor: one round only"),
     (NeverFive, "opening a monitor: closed, and never 5"),
     (FiveForGivenCrossing, "opening a monitor: 5 for given crossing only"),
     (FiveForUnclosed, "opening a monitor: 5 for every unclosed pair"),
+    (OpensOnAny, "opening a generator: on any pair"),
+    (OpensOnNone, "opening a generator: 15 for every pair"),
+    (GeneratorAsksFive, "opening a generator: 5 where there is no closure"),
+    (OpensOnCrossing, "opening a generator: on figures crossing as given"),
+    (OpensUnlessCrossing, "opening a generator: 15 for given crossing only"),
+    (OpensOnUnclosed, "opening a generator: 15 for no closure only"),
+    (ClosesByItself, "opening a generator: closes the pair instead of 15"),
+    (OwnUpperOnly, "opening a generator: ceilings alone looked at"),
+    (OwnLowerOnly, "opening a generator: leasts alone looked at"),
+    (OwnSumsOnly, "opening a generator: sums alone looked at"),
+    (OwnDifferencesOnly, "opening a generator: differences alone looked at"),
+    (OwnButHorizon, "opening a generator: the horizon not looked at"),
+    (FifteenBeforeFour, "opening a generator: 15 asked before 4"),
+    (FifteenForRefusals, "opening a generator: 15 for all that is refused"),
+    (SendsAndRefuses, "opening a generator: script overwritten with 15"),
     (EmptyTicksBefore, "monitor: empty ticks before the first"),
     (Recovers, "monitor: recovers"),
     (RecoversAndHolds, "monitor: recovers and holds the bad tick"),

@@ -1,6 +1,6 @@
 //! The generator with a fault, and what it shares with the monitor: a history with held ticks, as the rule describes it.
 
-use crate::faults::Fault::*;
+use crate::faults::Fault::{self, *};
 use crate::faulty_closing::{Faulty, Figures};
 use crate::states::{Sent, State};
 use crate::subject::{NO_COUNT, REFUSED};
@@ -82,22 +82,58 @@ impl Faulty {
         number
     }
 
-    pub fn generate_into(&self, upper: &[u32], lower: &[u32], script: &mut [u32]) -> u32 {
-        let number = match self.opening(upper, lower) {
-            0 if self.has(GeneratorAsksFive) && self.given_crosses(upper, lower) => 5,
-            number => number,
-        };
-        if number != 0 {
-            return self.refuse(number, script);
+    /// Whether a generator takes a pair that keeps the questions 1, 2 and 4.
+    fn takes(&self, given: &Figures) -> bool {
+        let (closed, rounds, crosses) = self.rounds(given.clone());
+        let stays_without = |fault: Fault| Faulty { fault }.round(given) == *given;
+        let horizon = given.horizon();
+        match self.fault {
+            OpensOnAny => true,
+            OpensOnNone => false,
+            OpensOnCrossing if crosses && rounds == 0 => true,
+            OpensUnlessCrossing => !crosses || rounds > 0,
+            _ if crosses => false,
+            OpensOnUnclosed | ClosesByItself => true,
+            OwnUpperOnly => closed.upper == given.upper,
+            OwnLowerOnly => closed.lower == given.lower,
+            OwnSumsOnly => stays_without(NoDifferences),
+            OwnDifferencesOnly => stays_without(NoSums),
+            OwnButHorizon => closed.upper[..horizon] == given.upper[..horizon] && closed.lower[..horizon] == given.lower[..horizon],
+            _ => closed == *given,
         }
-        let mut history = History {
-            given: Figures::new(upper, lower),
-            held: Vec::new(),
-        };
+    }
+
+    /// The questions of a generator's opening.
+    fn generator_opening(&self, upper: &[u32], lower: &[u32]) -> u32 {
+        let number = self.opening(upper, lower);
+        let given = Figures::new(upper, lower);
+        match self.fault {
+            FifteenForRefusals if number != 0 => 15,
+            FifteenBeforeFour if number == 4 && !self.takes(&given) => 15,
+            _ if number != 0 => number,
+            GeneratorAsksFive if self.rounds(given.clone()).2 => 5,
+            _ if self.takes(&given) => 0,
+            _ => 15,
+        }
+    }
+
+    fn send_all(&self, given: Figures, script: &mut [u32]) {
+        let mut history = History { given, held: Vec::new() };
         script
             .iter_mut()
             .for_each(|entry| *entry = self.generator_tick(&mut history, *entry));
-        0
+    }
+
+    pub fn generate_into(&self, upper: &[u32], lower: &[u32], script: &mut [u32]) -> u32 {
+        let number = self.generator_opening(upper, lower);
+        let given = Figures::new(upper, lower);
+        match self.fault {
+            ClosesByItself if number == 0 => self.send_all(self.rounds(given).0, script),
+            SendsAndRefuses if number == 15 => self.send_all(given, script),
+            _ if number == 0 => self.send_all(given, script),
+            _ => return self.refuse(number, script),
+        }
+        number
     }
 
     /// A tick on a state built by hand.

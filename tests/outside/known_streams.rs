@@ -1,6 +1,7 @@
 //! Streams with answers worked out beforehand, and choices.
 
-use crate::subject::{Subject, LIMIT, LOST, NO_COUNT};
+use crate::streams::{conforms, range};
+use crate::subject::{Subject, LIMIT, LONGEST_HORIZON, LOST};
 
 type Figures = &'static [u32];
 
@@ -58,13 +59,28 @@ const JUDGINGS: &[Judging] = &[
     },
 ];
 
-/// The last one crosses too: 4 comes first.
-const REFUSED: &[(Figures, Figures, u32)] = &[
-    (&[], &[], 1),
-    (&[2], &[7, 7], 2),
-    (&[2], &[7], 5),
-    (&[2, 2, 5], &[0, 0, 4], 5),
-    (&[2], &[LIMIT + 1], 4),
+/// Pairs with what opening a monitor gives back, and what opening a generator does.
+const OPENINGS: &[(Figures, Figures, u32, u32)] = &[
+    (&[], &[], 1, 1),
+    (&[2], &[7, 7], 2, 2),
+    // It crosses too: 4 comes first.
+    (&[2], &[LIMIT + 1], 4, 4),
+    (&[2], &[7], 5, 15),
+    (&[2, 2, 5], &[0, 0, 4], 5, 15),
+    (PUBLISHED.upper, PUBLISHED.lower, 0, 15),
+    // A ceiling that is loose and nothing else: no stream is lost. Then a least.
+    (&[1, 3], &[0, 0], 0, 15),
+    (&[1, 2], &[1, 1], 0, 15),
+    (&[5, 3], &[0, 0], 0, 15),
+    (&[1, 2], &[0, 2], 0, 15),
+    (&[2, 3, 5, 5], &[0, 0, 0, 3], 0, 15),
+    (&[2, 3, 5, 5], &[0, 0, 1, 3], 0, 0),
+    (&[7], &[2], 0, 0),
+    (&[0], &[0], 0, 0),
+    (&[LIMIT], &[LIMIT], 0, 0),
+    (&[LIMIT, LIMIT], &[0, 0], 0, 0),
+    (&[LIMIT, LIMIT], &[0, LIMIT], 0, 0),
+    (&[LIMIT, LIMIT], &[LIMIT, LIMIT], 5, 15),
 ];
 
 fn expect(name: &str, expected: &[u32], came: &[u32]) -> Result<(), String> {
@@ -84,23 +100,67 @@ fn check_judging(subject: &dyn Subject, known: &Judging) -> Result<(), String> {
     Ok(())
 }
 
-fn check_refused(subject: &dyn Subject, upper: &[u32], lower: &[u32], number: u32) -> Result<(), String> {
+/// What an opening gives back, and the script as it is where that is a refusal.
+fn check_opening(name: &str, number: u32, open: impl Fn(&mut [u32]) -> u32) -> Result<(), String> {
     let mut script = [1, 2];
-    let came = subject.judge(upper, lower, &mut script);
-    let name = format!("judge 1, 2\n  upper {upper:?}\n  lower {lower:?}");
-    expect(&name, &[number], &[came])?;
-    expect(&name, &[1, 2], &script)
+    let came = open(&mut script);
+    expect(name, &[number], &[came])?;
+    if number == 0 {
+        return Ok(());
+    }
+    expect(name, &[1, 2], &script)
 }
 
-/// The published pair, not closed: the start 0, 2, 1, 0, 2, 0 conforms and has no next count. The choices are those that send it.
-fn check_no_count(subject: &dyn Subject) -> Result<(), String> {
-    let mut choices = [0, 2, 1, 0, 0, 0, 0, 1];
-    subject.generate(PUBLISHED.upper, PUBLISHED.lower, &mut choices);
-    expect(
-        "generate with 0, 2, 1, 0, 0, 0, 0, 1 on the published pair",
-        &[0, 2, 1, 0, 2, 0, NO_COUNT, NO_COUNT],
-        &choices,
-    )
+fn check_openings(subject: &dyn Subject) -> Result<(), String> {
+    for (upper, lower, judge, generate) in OPENINGS {
+        let name = format!("1, 2\n  upper {upper:?}\n  lower {lower:?}");
+        check_opening(&format!("judge {name}"), *judge, |script| subject.judge(upper, lower, script))?;
+        check_opening(&format!("generate {name}"), *generate, |script| {
+            subject.generate(upper, lower, script)
+        })?;
+    }
+    Ok(())
+}
+
+/// The closure of the published pair: one a tick, whatever the choices.
+fn check_one_a_tick(subject: &dyn Subject) -> Result<(), String> {
+    let mut choices = [0, 2, 1, 0, u32::MAX, 7, 0, 1];
+    let number = subject.generate(&[1, 2, 3, 4, 5], &[1, 2, 3, 4, 5], &mut choices);
+    expect("generate on one a tick", &[0], &[number])?;
+    expect("generate on one a tick", &[1; 8], &choices)
+}
+
+/// One a tick again, with the longest horizon. With any one figure higher or lower by one, the others settle it or it crosses.
+fn check_each_figure(subject: &dyn Subject) -> Result<(), String> {
+    let ticks: Vec<u32> = (1..=LONGEST_HORIZON as u32).collect();
+    let name = "generate on one a tick, horizon 256";
+    check_opening(name, 0, |script| subject.generate(&ticks, &ticks, script))?;
+    for window in 1..=LONGEST_HORIZON {
+        for figure in [window as u32 - 1, window as u32 + 1] {
+            let mut off = ticks.clone();
+            off[window - 1] = figure;
+            let place = format!("{figure} for window {window}");
+            check_opening(&format!("{name}, ceiling {place}"), 15, |script| {
+                subject.generate(&off, &ticks, script)
+            })?;
+            check_opening(&format!("{name}, least {place}"), 15, |script| {
+                subject.generate(&ticks, &off, script)
+            })?;
+        }
+    }
+    Ok(())
+}
+
+/// On the published pair the start 0, 2, 1, 0, 2, 0 conforms, and no count can follow. No generator opens there, so only the reference
+/// tells.
+fn check_no_count() -> Result<(), String> {
+    let (upper, lower, start) = (PUBLISHED.upper, PUBLISHED.lower, [0, 2, 1, 0, 2, 0]);
+    match (conforms(upper, lower, &start), range(upper, lower, &start)) {
+        (true, None) => Ok(()),
+        (conforms, range) => Err(format!(
+            "{start:?} on the published pair\nconforms: {conforms}, lo and hi: {range:?}"
+        )),
+    }
 }
 
 /// On a closed pair, after 2, 1 the counts 0 to 2 can follow, after 2, 1, 0, 2 the counts 0 and 1: the next choice of 2 shows it.
@@ -123,9 +183,9 @@ pub fn check(subject: &dyn Subject) -> Result<(), String> {
     for known in JUDGINGS {
         check_judging(subject, known)?;
     }
-    for (upper, lower, number) in REFUSED {
-        check_refused(subject, upper, lower, *number)?;
-    }
-    check_no_count(subject)?;
+    check_no_count()?;
+    check_openings(subject)?;
+    check_one_a_tick(subject)?;
+    check_each_figure(subject)?;
     check_range(subject)
 }

@@ -30,6 +30,7 @@ mod reference;
 mod rounds;
 mod script_cases;
 mod scripts;
+mod sendings;
 mod states;
 mod streams;
 mod subject;

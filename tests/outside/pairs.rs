@@ -39,6 +39,11 @@ impl Pair {
         self.upper.iter().chain(&self.lower).any(|&figure| figure > LIMIT)
     }
 
+    /// Whether some least is above its ceiling, among the windows that both lists have.
+    pub fn crosses(&self) -> bool {
+        self.upper.iter().zip(&self.lower).any(|(upper, lower)| lower > upper)
+    }
+
     fn set_upper(&mut self, window: usize, figure: u64) {
         self.upper[window - 1] = figure.min(u64::from(LIMIT)) as u32;
     }
@@ -54,6 +59,11 @@ pub fn closure(pair: &Pair) -> Option<Pair> {
         upper: rounds::narrowed(&closed.curves.upper),
         lower: rounds::narrowed(&closed.curves.lower),
     })
+}
+
+/// Whether closing gives the pair back.
+pub fn is_own_closure(pair: &Pair) -> bool {
+    closure(pair).is_some_and(|closed| closed == *pair)
 }
 
 /// The closure where there is one, else the pair itself.
@@ -192,6 +202,17 @@ fn nearly_closed(rng: &mut Rng, horizon: usize) -> Pair {
     pair
 }
 
+/// A closure with exactly one figure higher or lower by one: that of the first window, of the last, or of any. It may pass the limit.
+pub fn one_figure_off(rng: &mut Rng, horizon: usize) -> Pair {
+    let mut pair = closure_of_any(rng, horizon);
+    let list = if rng.one_in(2) { &mut pair.upper } else { &mut pair.lower };
+    let between = rng.length(0, horizon - 1);
+    let place = rng.pick(&[0, horizon - 1, between, between]);
+    let less = list[place] > 0 && rng.one_in(2);
+    list[place] = if less { list[place] - 1 } else { list[place] + 1 };
+    pair
+}
+
 /// A closed pair with many figures made looser: closing has to find them again where they follow from the others.
 fn loosened(rng: &mut Rng, horizon: usize) -> Pair {
     let base = if rng.one_in(3) {
@@ -237,6 +258,29 @@ pub fn any(rng: &mut Rng, horizon: usize) -> Pair {
         13..=14 => loosened(rng, horizon),
         _ => crossing(rng, horizon),
     }
+}
+
+/// A closure; some have ceilings at the limit.
+pub fn closure_of_any(rng: &mut Rng, horizon: usize) -> Pair {
+    loop {
+        let pair = match rng.below(8) {
+            0 => any(rng, horizon),
+            1 => two_windows(rng, horizon),
+            2 => burst(rng, horizon),
+            3 => one_least(rng, horizon),
+            _ => lasting(rng, horizon),
+        };
+        if let Some(closed) = closure(&pair) {
+            return closed;
+        }
+    }
+}
+
+/// A least for one window and no other bound: in the closure the ceiling of the horizon is still at the limit.
+fn one_least(rng: &mut Rng, horizon: usize) -> Pair {
+    let mut pair = Pair::loose(horizon);
+    pair.lower[rng.length(0, horizon - 1)] = rng.below(9);
+    pair
 }
 
 /// A pair on which some stream goes on for a while: for scripts.

@@ -1,4 +1,5 @@
-//! Closing without rounds, twice: by shortest paths, and (whether there is a closure only) by comparing rates.
+//! Closing without rounds: by shortest paths; whether there is a closure, by comparing rates; and whether a pair is its own closure, by
+//! comparing each window with its two parts.
 //!
 //! Let x(n) be the sum of the counts before tick n. A ceiling means x(p + d) - x(p) <= U(d), an edge from p to p + d of cost U(d).
 //! A least means x(p) - x(p + d) <= -L(d), an edge back of cost -L(d). The bound that all of them together put on x(q) - x(p) is the
@@ -71,4 +72,18 @@ pub fn close(upper: &[u32], lower: &[u32]) -> Option<(Vec<u32>, Vec<u32>)> {
 pub fn rates_conflict(upper: &[u32], lower: &[u32]) -> bool {
     let asks_more = |a: usize, b: usize| (a as u64) * u64::from(upper[b - 1]) < (b as u64) * u64::from(lower[a - 1]);
     (1..=lower.len()).any(|a| (1..=upper.len()).any(|b| asks_more(a, b)))
+}
+
+/// Whether no step of a walk costs more than some two that end where it does, and no least is above its ceiling. With d = a + b that is
+/// a chain: L a + L b <= L d <= L a + U b <= U d <= U a + U b. Where it holds, two steps of a walk can be made one without a greater cost,
+/// so each figure is that of its cheapest walk.
+pub fn is_own_closure(upper: &[u32], lower: &[u32]) -> bool {
+    let horizon = upper.len();
+    let (up, low) = (|d: usize| u64::from(upper[d - 1]), |d: usize| u64::from(lower[d - 1]));
+    let in_order = |a: usize, b: usize| {
+        let chain = [low(a) + low(b), low(a + b), low(a) + up(b), up(a + b), up(a) + up(b)];
+        chain.windows(2).all(|pair| pair[0] <= pair[1])
+    };
+    let parts_keep = (1..horizon).all(|a| (1..=horizon - a).all(|b| in_order(a, b)));
+    parts_keep && (1..=horizon).all(|d| low(d) <= up(d))
 }

@@ -1,14 +1,14 @@
 //! What a closure is for, on small pairs, against all streams that there are: it is refused exactly where there is no unbounded stream;
-//! a start conforms to it exactly when it is extendable; each of its figures is met; a generator on it never stops, and a monitor on it
-//! never says 'lost'. What a monitor on the pair itself says is told in `lost`.
+//! a start conforms to it exactly when it is extendable; each of its figures is met; a generator on it opens and is never refused, and a
+//! monitor on it never says 'lost'. A generator opens on no other pair. What a monitor on the pair itself says is told in `lost`.
 
 use crate::extensions::Extensions;
 use crate::lost;
 use crate::pairs::Pair;
 use crate::random::Rng;
 use crate::streams::{conforms, verdict};
-use crate::subject::{refusal_of, Subject, LOST, NO_COUNT, PASSED};
-use crate::tally::{Tally, EQUAL, EXTENDABLE, START};
+use crate::subject::{refusal_of, Subject, LOST, PASSED, REFUSED};
+use crate::tally::{Tally, EQUAL, EXTENDABLE, OPENED, START};
 
 /// Figures so small that every past can be tried.
 fn small_pair(rng: &mut Rng, horizon: usize) -> Pair {
@@ -101,19 +101,42 @@ fn extremes(extensions: &Extensions, start: &mut Vec<u32>, ticks: usize) -> (u32
     found
 }
 
-/// Each figure is met. A stream without its first ticks conforms too, so a window anywhere can be tried at the start.
+/// Whether both figures of a window are met, and not passed. A stream without its first ticks conforms too, so a window anywhere can be
+/// tried at the start.
+fn is_met(pair: &Pair, extensions: &Extensions, window: usize) -> bool {
+    extremes(extensions, &mut Vec::new(), window) == (pair.lower[window - 1], pair.upper[window - 1])
+}
+
+/// Each figure of the closure is met.
 fn check_met(pair: &Pair, closed: &Pair, extensions: &Extensions) -> Result<(), String> {
-    for window in 1..=pair.horizon() {
-        let (lower, upper) = (closed.lower[window - 1], closed.upper[window - 1]);
-        if extremes(extensions, &mut Vec::new(), window) != (lower, upper) {
-            return Err(format!(
-                "a figure of window {window} of the closure is not met\n{}\n{}",
-                shown(pair),
-                shown(closed)
-            ));
-        }
+    match (1..=pair.horizon()).find(|&window| !is_met(closed, extensions, window)) {
+        None => Ok(()),
+        Some(window) => Err(format!(
+            "a figure of window {window} of the closure is not met\n{}\n{}",
+            shown(pair),
+            shown(closed)
+        )),
     }
-    Ok(())
+}
+
+/// A generator opens on the pair exactly where there is an unbounded stream and each figure is met; else it is 15 and the choices stay.
+fn check_opening(subject: &dyn Subject, pair: &Pair, extensions: &Extensions, tally: &mut Tally) -> Result<(), String> {
+    let own = extensions.any_stream() && (1..=pair.horizon()).all(|window| is_met(pair, extensions, window));
+    let choices = [3, 1, 4, 1, 5];
+    let mut sent = choices;
+    let number = subject.generate(&pair.upper, &pair.lower, &mut sent);
+    tally.note(OPENED, number);
+    let as_due = match own {
+        true => number == 0 && extensions.is_extendable(&sent),
+        false => number == 15 && sent == choices,
+    };
+    if as_due {
+        return Ok(());
+    }
+    Err(format!(
+        "a generator on\n{}\nanswers {number} {sent:?}; all figures are met: {own}",
+        shown(pair)
+    ))
 }
 
 /// A generator on the closure, with any choices: it always sends, what it sends is extendable, and a monitor on the closure passes it.
@@ -124,7 +147,7 @@ fn check_generator(subject: &dyn Subject, rng: &mut Rng, pair: &Pair, closed: &P
     let number = subject.generate(&closed.upper, &closed.lower, &mut sent);
     let mut judged = sent.clone();
     let other = subject.judge(&closed.upper, &closed.lower, &mut judged);
-    let stopped = sent.contains(&NO_COUNT);
+    let stopped = sent.iter().any(|&count| count >= REFUSED);
     if number != 0 || other != 0 || stopped || !extensions.is_extendable(&sent) || judged.iter().any(|&verdict| verdict != PASSED) {
         let lists = format!("choices {choices:?}\nsent {number} {sent:?}\njudged {other} {judged:?}");
         return Err(format!("on the closure of\n{}\n{}\n{lists}", shown(pair), shown(closed)));
@@ -182,6 +205,7 @@ pub fn compare(subject: &dyn Subject, rng: &mut Rng, tally: &mut Tally) -> Resul
         ));
     }
     lost::check(subject, rng, &pair, &extensions, tally)?;
+    check_opening(subject, &pair, &extensions, tally)?;
     let Some(closed) = closed else { return Ok(()) };
     check_pasts(&pair, &closed, &extensions)?;
     check_starts(&pair, &closed, &extensions, &mut Vec::new(), tally)?;
@@ -218,12 +242,14 @@ fn same_streams(one: &Extensions, other: &Extensions) -> bool {
 /// Two closures are equal exactly when the two pairs have the same unbounded streams.
 fn compare_two(subject: &dyn Subject, rng: &mut Rng, pair: &Pair, closed: &Pair, tally: &mut Tally) -> Result<(), String> {
     let other = other_pair(rng, closed);
+    let (extensions, other_extensions) = (Extensions::new(pair), Extensions::new(&other));
+    check_opening(subject, &other, &other_extensions, tally)?;
     let Some(other_closed) = closure(subject, &other)? else {
         return Ok(());
     };
     let equal = *closed == other_closed;
     tally.note(EQUAL, u32::from(equal));
-    if equal == same_streams(&Extensions::new(pair), &Extensions::new(&other)) {
+    if equal == same_streams(&extensions, &other_extensions) {
         return Ok(());
     }
     Err(format!(

@@ -7,13 +7,18 @@ use crate::subject::{LIMIT, LONGEST_HORIZON, NO_COUNT};
 
 const LONGEST_SCRIPT: usize = 600;
 
-/// A pair to open on: any, one with long streams, or the closure of one.
-fn pair(rng: &mut Rng) -> Pair {
-    let horizon = match rng.below(100) {
+/// Short mostly.
+fn horizon(rng: &mut Rng) -> usize {
+    match rng.below(100) {
         0..=1 => pairs::long_horizon(rng),
         2..=5 => rng.length(13, 64),
         _ => rng.length(1, 12),
-    };
+    }
+}
+
+/// A pair to open a monitor on: any, one with long streams, or the closure of one.
+fn pair(rng: &mut Rng) -> Pair {
+    let horizon = horizon(rng);
     match rng.below(4) {
         0 => pairs::any(rng, horizon),
         1 => pairs::lasting(rng, horizon),
@@ -209,18 +214,34 @@ pub fn for_monitor(rng: &mut Rng) -> (Pair, Vec<u32>) {
     }
 }
 
+/// A pair to open a generator on. Most are closures; of those with one figure off some still are, and of the others few.
+fn generator_pair(rng: &mut Rng) -> Pair {
+    let horizon = horizon(rng);
+    match rng.below(20) {
+        0..=11 => pairs::closure_of_any(rng, horizon),
+        12..=15 => pairs::one_figure_off(rng, horizon),
+        16..=17 => pairs::unclosed(rng, horizon.max(2)),
+        _ => pairs::any(rng, horizon),
+    }
+}
+
+/// The closure of figures for one window, and maybe for a single tick; choices so small that the least of a long window is what tells.
+fn generator_window(rng: &mut Rng) -> (Pair, Vec<u32>) {
+    let (mut pair, counts) = one_window(rng);
+    if rng.one_in(2) {
+        pair.upper[0] = pair.upper[0].min(rng.below(8));
+    }
+    let end = rng.pick(&[2, 3, 7]);
+    let script = counts.iter().map(|_| rng.below(end)).collect();
+    (pairs::closed(&pair), script)
+}
+
 /// A pair and choices for a generator on it.
 pub fn for_generator(rng: &mut Rng) -> (Pair, Vec<u32>) {
     if rng.one_in(10) {
-        let (mut pair, counts) = one_window(rng);
-        if rng.one_in(2) {
-            pair.upper[0] = pair.upper[0].min(rng.below(8));
-        }
-        let end = rng.pick(&[2, 3, 7]);
-        let script = counts.iter().map(|_| rng.below(end)).collect();
-        return (pair, script);
+        return generator_window(rng);
     }
-    let pair = pair(rng);
+    let pair = generator_pair(rng);
     let length = rng.length(0, LONGEST_SCRIPT);
     let script = choices(rng, length);
     (pair, script)

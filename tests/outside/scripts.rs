@@ -1,14 +1,14 @@
-//! Scripts: streams of counts through a monitor and lists of choices through a generator.
+//! Scripts: streams of counts through a monitor, and what they share with lists of choices through a generator (`sendings`).
 
 use crate::pairs::{closed, Pair};
 use crate::paths;
 use crate::random::Rng;
 use crate::reference::Reference;
-use crate::script_cases::{for_generator, for_monitor, spoil};
+use crate::script_cases::{for_monitor, spoil};
 use crate::streams::{conforms, verdict};
-use crate::subject::{Subject, ALREADY_FAILED, LONGEST_HORIZON, LOST, NO_COUNT, PASSED, TOO_FEW, TOO_MANY};
-use crate::tally::{Tally, FAILED, FEW, GENERATOR, LO, MANY, MONITOR, OPENING, REJECTED, SENT, STOPPED, VERDICT};
-use crate::tally::{HORIZONS, LOST_BETWEEN, LOST_BY, LOST_FIRST, LOST_LAST, LOST_WINDOW};
+use crate::subject::{Subject, ALREADY_FAILED, LONGEST_HORIZON, LOST, PASSED, TOO_FEW, TOO_MANY};
+use crate::tally::{horizon_end, Tally, FAILED, FEW, MANY, MONITOR, OPENING, REJECTED, VERDICT};
+use crate::tally::{LOST_BETWEEN, LOST_BY, LOST_FIRST, LOST_LAST, LOST_WINDOW};
 
 /// Entries on either side of a script, which no call may touch.
 const MARGIN: usize = 4;
@@ -19,10 +19,6 @@ fn judge(subject: &dyn Subject, upper: &[u32], lower: &[u32], script: &mut [u32]
     subject.judge(upper, lower, script)
 }
 
-fn generate(subject: &dyn Subject, upper: &[u32], lower: &[u32], script: &mut [u32]) -> u32 {
-    subject.generate(upper, lower, script)
-}
-
 fn put_to(subject: &dyn Subject, operation: Operation, pair: &Pair, script: &[u32]) -> (u32, Vec<u32>) {
     let mut list = vec![77; script.len() + 2 * MARGIN];
     let end = MARGIN + script.len();
@@ -31,7 +27,8 @@ fn put_to(subject: &dyn Subject, operation: Operation, pair: &Pair, script: &[u3
     (number, list)
 }
 
-fn check(subject: &dyn Subject, name: &str, operation: Operation, pair: &Pair, script: &[u32]) -> Result<(u32, Vec<u32>), String> {
+/// What the subject gives back and leaves in a script, if it is what the reference does.
+pub fn check(subject: &dyn Subject, name: &str, operation: Operation, pair: &Pair, script: &[u32]) -> Result<(u32, Vec<u32>), String> {
     let expected = put_to(&Reference, operation, pair, script);
     let came = put_to(subject, operation, pair, script);
     if came == expected {
@@ -63,13 +60,12 @@ fn note_rejected(pair: &Pair, closed: &Pair, stream: &[u32], found: u32, tally: 
         tally.note(REJECTED, u32::from(by_closed != found));
         return;
     }
-    let horizon = HORIZONS.iter().find(|&&end| pair.horizon() <= end as usize);
     let kind = match stream.len() {
         1 => LOST_FIRST,
         ticks if ticks + 1 == pair.horizon() => LOST_LAST,
         _ => LOST_BETWEEN,
     };
-    tally.note(kind, horizon.map_or(0, |&end| end));
+    tally.note(kind, horizon_end(pair.horizon()));
     tally.note(LOST_WINDOW, by_closed % 1_000);
     tally.note(LOST_BY, by_closed / 1_000);
 }
@@ -115,7 +111,7 @@ fn age(tick: usize) -> u32 {
     [10, 100, 300].iter().filter(|&&end| tick >= end).count() as u32
 }
 
-fn spoil_sometimes(rng: &mut Rng, pair: &mut Pair) {
+pub fn spoil_sometimes(rng: &mut Rng, pair: &mut Pair) {
     if rng.one_in(10) {
         for _ in 0..rng.between(1, 2) {
             spoil(rng, pair);
@@ -123,26 +119,24 @@ fn spoil_sometimes(rng: &mut Rng, pair: &mut Pair) {
     }
 }
 
-/// Which questions of an opening have the answer no, each asked by itself; of 5, which a monitor's opening alone asks, only whether
-/// the given figures cross.
-fn note_faults(pair: &Pair, asks_five: bool, tally: &mut Tally) {
-    let crosses = pair.upper.iter().zip(&pair.lower).any(|(upper, lower)| lower > upper);
+/// Which of the questions 1, 2 and 4 of an opening, and of its last one, have the answer no, each asked by itself.
+pub fn note_faults(pair: &Pair, last: (u32, bool), tally: &mut Tally) {
     let asked = [
         (1, pair.upper.is_empty() || pair.upper.len() > LONGEST_HORIZON),
         (2, pair.lower.len() != pair.upper.len()),
         (4, pair.over_limit()),
-        (5, asks_five && crosses),
+        last,
     ];
     let mut faults = asked.iter().filter(|question| question.1).map(|question| question.0);
     if let Some(first) = faults.next() {
-        faults.for_each(|other| tally.note(OPENING, 10 * first + other));
+        faults.for_each(|other| tally.note(OPENING, 100 * first + other));
     }
 }
 
 pub fn compare_monitor(subject: &dyn Subject, rng: &mut Rng, tally: &mut Tally) -> Result<(), String> {
     let (mut pair, script) = for_monitor(rng);
     spoil_sometimes(rng, &mut pair);
-    note_faults(&pair, true, tally);
+    note_faults(&pair, (5, pair.crosses()), tally);
     let (number, verdicts) = check(subject, "judge", judge, &pair, &script)?;
     tally.note(MONITOR, number);
     if number != 0 {
@@ -159,81 +153,6 @@ pub fn compare_monitor(subject: &dyn Subject, rng: &mut Rng, tally: &mut Tally) 
     }
     if pair.horizon() <= 64 || rng.one_in(4) {
         check_on_closure(subject, &closed, &script, &verdicts)?;
-    }
-    Ok(())
-}
-
-/// What is sent keeps the pair, by the sum of every window; and where no count is sent, no small one would keep it.
-fn check_sent(pair: &Pair, list: &[u32]) -> Result<(), String> {
-    let stream: Vec<u32> = list.iter().copied().take_while(|&count| count != NO_COUNT).collect();
-    let stays = list[stream.len()..].iter().all(|&count| count == NO_COUNT);
-    let next_conforms = |count: u32| conforms(&pair.upper, &pair.lower, &[stream.as_slice(), &[count]].concat());
-    let none = stream.len() == list.len() || !(0..=pair.upper[0].min(50)).any(next_conforms);
-    if stays && none && conforms(&pair.upper, &pair.lower, &stream) {
-        return Ok(());
-    }
-    Err(format!(
-        "what is sent does not conform, or it stopped too early\n  {:?}\n  {:?}\n  {list:?}",
-        pair.upper, pair.lower
-    ))
-}
-
-/// Which window settled the smallest count that could be sent last, 0 where none did.
-fn lo_window(pair: &Pair, stream: &[u32]) -> u32 {
-    let before = |window: usize| {
-        stream[stream.len() + 1 - window..]
-            .iter()
-            .map(|&count| i64::from(count))
-            .sum::<i64>()
-    };
-    let windows = 1..=pair.horizon().min(stream.len() + 1);
-    let lo = |window: &usize| i64::from(pair.lower[*window - 1]) - before(*window);
-    windows.filter(|window| lo(window) > 0).max_by_key(lo).unwrap_or(0) as u32
-}
-
-fn note_sent(pair: &Pair, list: &[u32], tally: &mut Tally) {
-    for &count in list {
-        tally.note(SENT, if count == NO_COUNT { 13 } else { 0 });
-    }
-    let stop = list.iter().position(|&count| count == NO_COUNT);
-    if let Some(tick) = stop {
-        tally.note(STOPPED, age(tick));
-    }
-    let sent = stop.unwrap_or(list.len());
-    if sent > 0 {
-        tally.note(LO, lo_window(pair, &list[..sent - 1]));
-    }
-}
-
-/// What a generator sends on a pair is neither too many nor too few for a monitor on it. Where it came to an end, the stream was lost
-/// before, or there never was one.
-fn check_judged(subject: &dyn Subject, pair: &Pair, list: &[u32]) -> Result<(), String> {
-    let stream: Vec<u32> = list.iter().copied().take_while(|&count| count != NO_COUNT).collect();
-    let (number, verdicts) = check(subject, "judge", judge, pair, &stream)?;
-    let neither = verdicts.iter().all(|&verdict| matches!(verdict, PASSED | LOST | ALREADY_FAILED));
-    let told = stream.len() == list.len() || verdicts.contains(&LOST);
-    if number == 5 || (number == 0 && neither && told) {
-        return Ok(());
-    }
-    Err(format!(
-        "a monitor on\n  {:?}\n  {:?}\nanswers {number} {verdicts:?} to what a generator sent\n  {list:?}",
-        pair.upper, pair.lower
-    ))
-}
-
-pub fn compare_generator(subject: &dyn Subject, rng: &mut Rng, tally: &mut Tally) -> Result<(), String> {
-    let (mut pair, script) = for_generator(rng);
-    spoil_sometimes(rng, &mut pair);
-    note_faults(&pair, false, tally);
-    let (number, list) = check(subject, "generate", generate, &pair, &script)?;
-    tally.note(GENERATOR, number);
-    if number != 0 {
-        return Ok(());
-    }
-    note_sent(&pair, &list, tally);
-    if pair.horizon() <= 12 {
-        check_sent(&pair, &list)?;
-        check_judged(subject, &pair, &list)?;
     }
     Ok(())
 }

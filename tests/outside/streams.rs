@@ -1,6 +1,6 @@
 //! Conformance, the monitor and the generator, from the whole stream each time: every window is summed anew.
 
-use crate::pairs::{closure, Pair};
+use crate::pairs::{closure, is_own_closure, Pair};
 use crate::rounds::opening;
 use crate::subject::{ALREADY_FAILED, LOST, NO_COUNT, PASSED, TOO_FEW, TOO_MANY};
 
@@ -107,12 +107,16 @@ pub fn judge_into(upper: &[u32], lower: &[u32], script: &mut [u32]) -> u32 {
     }
 }
 
-/// A script through a generator, questions included.
+/// A script through a generator, questions included: the last of them is whether the pair is its own closure.
 pub fn generate_into(upper: &[u32], lower: &[u32], script: &mut [u32]) -> u32 {
     let number = opening(upper, lower, None);
-    if number == 0 {
-        let list = sent(upper, lower, script);
-        script.copy_from_slice(&list);
+    if number != 0 {
+        return number;
     }
-    number
+    if !is_own_closure(&Pair::new(upper, lower)) {
+        return 15;
+    }
+    let list = sent(upper, lower, script);
+    script.copy_from_slice(&list);
+    0
 }

@@ -37,17 +37,27 @@ pub const BUILT_TWELVE: &str = "12 for (0 sizes, 1 given figures, 2 closed ones 
 pub const BUILT_REJECTED: &str = "many or few by hand (0 closed kept, 1 broken too)";
 pub const BUILT_LOOSER: &str = "looser closed figures by hand (0 passed, 4 lost)";
 pub const BUILT_SENT: &str = "generators by hand (0 sent, 12 or 13 refused)";
-pub const SENT: &str = "generator (0 sent, 13 no count)";
-pub const STOPPED: &str = "no count (0: in 10 ticks, 1: 100, 2: 300, 3: later)";
+pub const AT_LIMIT: &str = "opening a generator, a figure at the limit (0, 15)";
+pub const NOT_OWN: &str = "15 (1 ceilings, 2 leasts, 3 both, 4 crossing, 5 none)";
+pub const NOT_OWN_ROUNDS: &str = "15, and closing takes so many rounds";
+pub const LOOSE_UPPER: &str = "15 for one ceiling alone, window";
+pub const LOOSE_LOWER: &str = "15 for one least alone, window";
+pub const SENT: &str = "a generator opened and sent, horizon up to";
 pub const LO: &str = "generator, the window that settled lo (0: none)";
 pub const EXTENDABLE: &str = "a pair has extendable streams (0 none, 1 some)";
+pub const OPENED: &str = "opening a generator, by search (0 opened, 15 not)";
 pub const START: &str = "a start (0 not extendable, 1 extendable)";
 pub const JUDGED: &str = "a stream, by search (0 passed, 1 many, 2 few, 4 lost)";
 pub const EQUAL: &str = "two closures (0 differ, 1 equal)";
 
 const SOME_WINDOWS: &[u32] = &[1, 2, 3, 4, 8, 12, 256];
-/// Horizons by kind, each up to one of these. With one window nothing is ever lost, as every pair with a closure is its own.
-pub const HORIZONS: &[u32] = &[2, 3, 4, 8, 12, 64, 255, 256];
+/// Horizons by kind, each up to one of these.
+const HORIZONS: &[u32] = &[1, 2, 3, 4, 8, 12, 64, 255, 256];
+
+/// The kind of a horizon.
+pub fn horizon_end(horizon: usize) -> u32 {
+    HORIZONS.iter().find(|&&end| horizon <= end as usize).map_or(0, |&end| end)
+}
 
 /// What must be seen in a whole run.
 const DUE: &[(&str, &[u32])] = &[
@@ -63,14 +73,15 @@ const DUE: &[(&str, &[u32])] = &[
     (ROOM, &[0, 1, 2]),
     (PROGRAM, &[0, 5, 6, 7, 8, 9, 10]),
     (MONITOR, &[0, 1, 2, 4, 5]),
-    (GENERATOR, &[0, 1, 2, 4]),
-    (OPENING, &[12, 14, 15, 24, 25, 45]),
+    (GENERATOR, &[0, 1, 2, 4, 15]),
+    (OPENING, &[102, 104, 105, 115, 204, 205, 215, 405, 415]),
     (VERDICT, &[0, 1, 2, 3, 4]),
     (MANY, SOME_WINDOWS),
     (FEW, SOME_WINDOWS),
     (FAILED, &[0, 1, 2, 3]),
     (REJECTED, &[0, 1]),
-    (LOST_FIRST, HORIZONS),
+    // With one window every pair that has a closure is its own, so nothing is lost.
+    (LOST_FIRST, &[2, 3, 4, 8, 12, 64, 255, 256]),
     (LOST_BETWEEN, &[4, 8, 12, 64, 255, 256]),
     (LOST_LAST, &[3, 4, 8, 12, 64, 255, 256]),
     (LOST_WINDOW, &[1, 2, 3, 4, 8, 11, 255]),
@@ -81,10 +92,16 @@ const DUE: &[(&str, &[u32])] = &[
     (BUILT_LOOSER, &[0, 4]),
     (BOTH, &[0, 1]),
     (BUILT_SENT, &[0, 12, 13]),
-    (SENT, &[0, 13]),
-    (STOPPED, &[0, 1, 2]),
+    (AT_LIMIT, &[0, 15]),
+    (NOT_OWN, &[1, 2, 3, 4, 5]),
+    (NOT_OWN_ROUNDS, &[1, 2, 3, 4, 5]),
+    // Those of a horizon of 256 are tried one after the other (`known_streams`).
+    (LOOSE_UPPER, &[1, 2, 3, 4, 8, 12]),
+    (LOOSE_LOWER, &[1, 2, 3, 4, 8, 12]),
+    (SENT, HORIZONS),
     (LO, &[0, 1, 2, 3, 8, 256]),
     (EXTENDABLE, &[0, 1]),
+    (OPENED, &[0, 15]),
     (START, &[0, 1]),
     (JUDGED, &[0, 1, 2, 4]),
     (EQUAL, &[0, 1]),
