@@ -37,8 +37,16 @@ fn judge(case: &Case, contender: &Contender) -> Vec<u32> {
 
 fn generate(case: &Case, contender: &Contender) -> Vec<u32> {
     let mut script = case.script.clone();
-    (contender.generate)(&case.upper, &case.lower, &mut script);
+    let number = (contender.generate)(&case.upper, &case.lower, &mut script);
+    script.push(number);
     script
+}
+
+/// A generator opened again and again, without a tick: what the questions take.
+fn open_generator(case: &Case, contender: &Contender) -> Vec<u32> {
+    (0..case.calls)
+        .map(|_| (contender.generate)(&case.upper, &case.lower, &mut []))
+        .collect()
 }
 
 fn read(case: &Case, contender: &Contender) -> Vec<u32> {
@@ -98,6 +106,14 @@ fn curves(horizon: u32) -> (Vec<u32>, Vec<u32>) {
     (closed_upper, closed_lower)
 }
 
+/// The one round that finds nothing to change, and a state.
+fn opening() -> Case {
+    let mut case = closing_closed_curves();
+    case.name = "generator opening, 256";
+    case.run = open_generator;
+    case
+}
+
 fn choices() -> Vec<u32> {
     (0..TICKS as u32).map(|tick| tick.wrapping_mul(2_654_435_761) >> 7).collect()
 }
@@ -121,6 +137,26 @@ fn monitor(name: &'static str, horizon: u32) -> Case {
     Product.generate(&case.upper, &case.lower, &mut case.script);
     case.run = judge;
     case
+}
+
+/// Pairs that no generator opens on: with a ceiling that is loose, or a least, and two without a closure. The choices stay.
+pub fn not_closed() -> Vec<Case> {
+    let pairs: [(&str, [u32; 3], [u32; 3]); 4] = [
+        ("generator, a loose ceiling", [1, 2, 4], [0, 0, 0]),
+        ("generator, a loose least", [1, 2, 3], [1, 2, 2]),
+        ("generator, crossing", [1, 2, 3], [0, 3, 0]),
+        ("generator, no closure", [2, 2, 5], [0, 0, 4]),
+    ];
+    let case = |(name, upper, lower): (&'static str, [u32; 3], [u32; 3])| Case {
+        name,
+        calls: 1,
+        run: generate,
+        upper: upper.to_vec(),
+        lower: lower.to_vec(),
+        script: vec![1, 2],
+        text: Vec::new(),
+    };
+    pairs.into_iter().map(case).collect()
 }
 
 fn reading() -> Case {
@@ -164,6 +200,7 @@ pub fn all() -> Vec<Case> {
         closing_nine_rounds(),
         closing_a_text(),
         closing_closed_curves(),
+        opening(),
         monitor("monitor tick, 256", 256),
         monitor("monitor tick, 16", 16),
         generator("generator tick, 256", 256),

@@ -5,7 +5,7 @@
 
 use crate::plain;
 use crate::ring::Ring;
-use crate::subject::{refusal_of, refused, ALREADY_FAILED, HEADER, LIMIT, LONGEST_HORIZON, LOST, NO_COUNT, PASSED, TOO_FEW, TOO_MANY};
+use crate::subject::{refusal_of, refused, ALREADY_FAILED, HEADER, LIMIT, LONGEST_HORIZON, LOST, PASSED, TOO_FEW, TOO_MANY};
 
 /// Windows of one block.
 const BLOCK: usize = 32;
@@ -165,18 +165,25 @@ fn range(ring: &Ring, upper: &[u32], lower: &[u32]) -> (i32, i32) {
     (lo, hi)
 }
 
+/// A round that changes no figure.
+#[inline(always)]
+fn is_own_closure(upper: &[u32], lower: &[u32]) -> bool {
+    let crosses = upper.iter().zip(lower).any(|(upper, lower)| lower > upper);
+    !crosses && !round(&mut curve(upper, FAR), &mut curve(lower, -FAR), upper.len())
+}
+
+/// On a pair that is its own closure there always is a count to send.
 #[inline(always)]
 pub fn generate_core(upper: &[u32], lower: &[u32], script: &mut [u32]) -> u32 {
+    if !is_own_closure(upper, lower) {
+        return 15;
+    }
     let mut ring = Ring::new(upper.len());
-    for tick in 0..script.len() {
+    for entry in script {
         let (lo, hi) = range(&ring, upper, lower);
-        if lo > hi {
-            script[tick..].fill(NO_COUNT);
-            break;
-        }
-        let count = lo as u32 + script[tick] % (hi - lo + 1) as u32;
+        let count = lo as u32 + *entry % (hi - lo + 1) as u32;
         ring.hold(count);
-        script[tick] = count;
+        *entry = count;
     }
     0
 }

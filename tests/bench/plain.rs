@@ -1,6 +1,6 @@
 //! The operations as a plain Rust program would have them: for each window its candidates, one after the other, in 32 bits; states
 //! that go in and come out by value and are asked about at each tick; one pass over the text. No loop that matters has a bounds check.
-//! All but closing are the product's own algorithms.
+//! All but the rounds of closing, and the one of a generator's opening, are the product's own algorithms.
 
 use crate::subject::{
     refusal_of, refused, ALREADY_FAILED, HEADER, LIMIT, LONGEST_HORIZON, LONGEST_TEXT, LOST, NO_COUNT, PASSED, TEXT_LIMIT, TOO_FEW,
@@ -40,6 +40,10 @@ fn figures(upper: &[u32], lower: &[u32], d: usize) -> (u32, u32) {
     (new_upper, new_lower)
 }
 
+fn crosses(upper: &[u32], lower: &[u32]) -> bool {
+    upper.iter().zip(lower).any(|(upper, lower)| lower > upper)
+}
+
 pub fn close(upper: &[u32], lower: &[u32], closed_upper: &mut [u32], closed_lower: &mut [u32]) -> u64 {
     let horizon = upper.len();
     match opening(upper, lower) {
@@ -52,7 +56,7 @@ pub fn close(upper: &[u32], lower: &[u32], closed_upper: &mut [u32], closed_lowe
     old_lower[..horizon].copy_from_slice(lower);
     let mut rounds = 0;
     loop {
-        if old_upper[..horizon].iter().zip(&old_lower).any(|(upper, lower)| lower > upper) {
+        if crosses(&old_upper[..horizon], &old_lower) {
             return refused(5);
         }
         let (mut new_upper, mut new_lower) = ([0; LONGEST_HORIZON], [0; LONGEST_HORIZON]);
@@ -237,10 +241,17 @@ pub fn judge(upper: &[u32], lower: &[u32], script: &mut [u32]) -> u32 {
     0
 }
 
+/// A round that changes no figure.
+fn is_own_closure(upper: &[u32], lower: &[u32]) -> bool {
+    let stays = |d: usize| figures(upper, lower, d) == (upper[d - 1], lower[d - 1]);
+    !crosses(upper, lower) && (1..=upper.len()).all(stays)
+}
+
 pub fn generate(upper: &[u32], lower: &[u32], script: &mut [u32]) -> u32 {
-    let number = opening(upper, lower);
-    if number != 0 {
-        return number;
+    match opening(upper, lower) {
+        0 if is_own_closure(upper, lower) => {}
+        0 => return 15,
+        number => return number,
     }
     let mut generator = History::open(upper, lower);
     for entry in script {
