@@ -1,6 +1,6 @@
 /*
- * Closes a pair of arrival curves, shows how a refusal is told, generates a stream on a closure and judges it; then a start that keeps
- * its curves as they are written, and is lost.
+ * Closes a pair of arrival curves and shows how a refusal is told; opens a generator on curves as they are written, which is refused, and
+ * on their closure, and judges what it sends; then a start that keeps its curves as they are written, and is lost.
  *
  *     gcc -std=c99 -Iinclude examples/c/closing.c target/staticlib/libexports.a -o target/closing
  */
@@ -64,6 +64,20 @@ static void judge_and_print(const uint32_t *upper, const uint32_t *lower, size_t
     printf("\n");
 }
 
+/* Puts the counts that a generator sends in the place of the choices. Gives back 1 where it opens. */
+static int generate(const uint32_t *upper, const uint32_t *lower, size_t horizon, uint32_t *script, size_t length)
+{
+    uint32_t refusal;
+
+    print_list("choices", script, length);
+    refusal = calgedze_generate(upper, horizon, lower, horizon, script, length);
+    if (refusal != 0) {
+        printf("refused with %lu\n", (unsigned long)refusal);
+        return 0;
+    }
+    return 1;
+}
+
 int main(void)
 {
     /* At most 3 in three ticks and at least 5 in five leave one stream only: one a tick. */
@@ -82,12 +96,13 @@ int main(void)
     if (!close_and_print(upper, lower, closed_upper, closed_lower, 4))
         return 1;
 
-    /* On the curves of a closure there is always a count to send, so no entry of the script becomes a refusal. */
-    print_list("choices", script, 10);
-    calgedze_generate(closed_upper, 4, closed_lower, 4, script, 10);
+    /* A generator opens on closed curves only: 15 on these as they are written, and the choices stay. On the closure it always sends. */
+    generate(upper, lower, 4, script, 10);
+    if (!generate(closed_upper, closed_lower, 4, script, 10))
+        return 1;
     judge_and_print(closed_upper, closed_lower, 4, script, 10);
     judge_and_print(closed_upper, closed_lower, 4, bad, 6);
-    /* On the first pair, as it is written: each window of these six ticks keeps its figures, but none that begins with 0 goes on for ever. */
+    /* On the first pair, as it is written: each window of these six ticks keeps its figures, but nothing that begins with 0 goes on. */
     judge_and_print(one_upper, one_lower, 5, lost, 6);
     return 0;
 }

@@ -1,5 +1,5 @@
-//! Reads a constraint text, closes its curves, generates twenty ticks of traffic on them and judges it; then a stream that goes wrong,
-//! and a start that keeps the curves as they are written and is lost.
+//! Reads a constraint text and closes its curves; opens a generator on the curves as written, which is refused, and on the closed ones,
+//! and judges the twenty ticks that it sends; then a stream that goes wrong, and a start that keeps the curves as written and is lost.
 //!
 //!     rustc --edition 2021 examples/rust/traffic.rs -L native=target/staticlib -l static=exports -o target/traffic
 
@@ -115,7 +115,7 @@ impl Curves {
         Ok((closed, rounds))
     }
 
-    /// The counts that a generator sends for these choices.
+    /// The counts that a generator sends for these choices. It opens on closed curves only.
     fn generate(&self, choices: &[u32]) -> Result<Vec<u32>, Refusal> {
         let mut script = choices.to_vec();
         let (upper, lower) = (self.upper.as_ptr(), self.lower.as_ptr());
@@ -172,6 +172,9 @@ fn run() -> Result<(), Refusal> {
     println!("rounds that changed a figure: {rounds}");
 
     let choices: Vec<u32> = (0..20).map(|tick| 7 * tick * tick + 3).collect();
+    if let Err(Refusal(number)) = given.generate(&choices) {
+        println!("a generator on the curves as written: refused with {number}");
+    }
     let sent = closed.generate(&choices)?;
     println!("sent: {sent:?}");
     print_verdicts(&sent, &closed.judge(&sent)?);
