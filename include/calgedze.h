@@ -6,8 +6,8 @@
  * null, not even for no entries, and a list that a call writes overlaps no other list of the call. A pair is two lists of figures, the
  * upper curve (ceilings) and the lower (leasts); entry 0 of each is that of the window of one tick.
  *
- * A call is refused with a number from 1 to 11, and then every list stays as it was. An entry of a script becomes the answer of one tick;
- * a tick that is refused has its number in its entry, and the call is not refused for it.
+ * A call is refused with a number from 1 to 11 or with 15, and then every list stays as it was. An entry of a script becomes the answer
+ * of one tick; no tick of a script is refused.
  */
 #ifndef CALGEDZE_H
 #define CALGEDZE_H
@@ -77,9 +77,9 @@ size_t calgedze_report(const uint8_t *text, size_t text_length, uint8_t *output,
 #define CALGEDZE_LOST 4000u
 
 /*
- * The answer of a tick that is refused is this plus the refusal's number: 13 for a choice where no count keeps every window that ends at
- * the tick, which never happens on the curves of a closure. No other refusal comes up in a script. A count that is sent is at most
- * 16,776,960.
+ * The answer of a tick that is refused is this plus the refusal's number. No tick of a script is refused, since a script opens its own
+ * state, and where a generator opens there is a count to send at every tick. So each entry that a call writes is below this, and a count
+ * that is sent is at most 16,776,960.
  */
 #define CALGEDZE_REFUSED 4000000000u
 
@@ -92,7 +92,9 @@ uint32_t calgedze_judge(const uint32_t *upper, size_t upper_length, const uint32
 
 /*
  * Opens a generator on the pair of `upper` and `lower` and gives it the choices of `script`. Gives back 0; or 1, 2 or 4, as
- * calgedze_close has them, and then there is no tick and the script stays as it is.
+ * calgedze_close has them; or
+ *  15  the pair is not its own closure, or has none: close it first, and open on the result
+ * Where that is not 0, there is no tick and the script stays as it is.
  */
 uint32_t calgedze_generate(const uint32_t *upper, size_t upper_length, const uint32_t *lower, size_t lower_length, uint32_t *script,
                            size_t script_length);
