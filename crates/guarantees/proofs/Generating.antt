@@ -35,7 +35,7 @@ module _ (v : View) (l : Legal v) where
       let m = mod-eq-of-lt {n = x - r .lo} {m = suc (r .hi - r .lo)} (omega arith) in
       (x - r .lo, omega (arith, count-limited v l x k), rw (ranging-range v l r) (ap result (omega arith)))
 
-  sent-keeps : (choice x : ℕ) → sending v choice ≡ result x → Keeps (v .pair) (then (v .held) x)
+  pub sent-keeps : (choice x : ℕ) → sending v choice ≡ result x → Keeps (v .pair) (then (v .held) x)
   sent-keeps choice x e =
       let (b, s, c) = sent-from v choice x e in
       let (l′, (r, f)) = ranging-from v b s in

@@ -13,15 +13,15 @@ use Rattle.curves.proofs.Asked.{no-refusal}
 use Rattle.curves.proofs.Figures.{full-same}
 use Rattle.curves.proofs.Closure.{one-more-tick, causal-takes-no-round, causal-iff-no-round}
 use Rattle.curves.proofs.Verdicts.{range-newest}
-use Rattle.bounds.specs.Bounds.{pairQuestions}
+use Rattle.bounds.specs.Bounds.{figureLimit, pairQuestions}
 use Rattle.bounds.proofs.Said.{asking-yes}
 use Rattle.closure.specs.Theorems.{PassesFour, GivesClosure, closureOf, room}
 use Rattle.closure.proofs.Said.{closed-is, gives-passes}
 use Rattle.closure.proofs.Room.{room-passes}
 use Rattle.closure.proofs.Given.{arrived, given-even}
 use Rattle.closure.proofs.Promised.{closure-passes, given-is-causal, conforms-iff-extendable, causal-iff-given-back}
-use Rattle.history.specs.States.{View, viewOf}
-use Rattle.history.specs.Opening.{opening, zeroHistory, Begun}
+use Rattle.history.specs.States.{View, viewOf, Legal}
+use Rattle.history.specs.Opening.{opening, fresh, zeroHistory, Begun}
 use Rattle.history.proofs.Histories.{horizon-seen}
 use Rattle.monitor.specs.Monitoring.{MonitorView, judged}
 use Rattle.monitor.specs.Opening.{freshMonitor}
@@ -32,16 +32,16 @@ use Rattle.generator.specs.Generating.{RangeAnswer, ranging, chosen, sending, s
 use Rattle.generator.specs.Opening.{generatorOpening}
 use Rattle.generator.specs.Answers.{sendingReply}
 use Rattle.generator.specs.Promises.{GeneratorOpened}
-use Rattle.generator.specs.Calls.{Call, ticked, ranged, Calls, stateAfter, countsSent}
-use Rattle.generator.proofs.Said.{range-answer, ranging-bad, ranging-range, generator-next}
+use Rattle.generator.specs.Calls.{viewAfter, sendings, Call, ticked, ranged, Calls, stateAfter, countsSent}
+use Rattle.generator.proofs.Said.{range-answer, ranging-bad, ranging-range, count-limited, generator-next}
 use Rattle.generator.proofs.Opening.{opening-yes, opening-fifteenth, opened-from}
 use Rattle.guarantees.specs.Exact.{Answers, AllPass}
 use Rattle.guarantees.specs.NeverRefused.{GeneratorOpens, GivenBack, OpensIffGivenBack, FifteenIffNotGivenBack, NotRefused}
-use Rattle.guarantees.specs.NeverRefused.{OpenedNeverRefused, Reached, NoCountOnlyUnreached, SendsIffExtendable, SendsIffPasses}
-use Rattle.guarantees.specs.NeverRefused.{OpensOnClosure, NeverRefused, PassesIffExtendable}
+use Rattle.guarantees.specs.NeverRefused.{OpenedNeverRefused, SendsAtEveryTick, Reached, NoCountOnlyUnreached, SendsIffExtendable}
+use Rattle.guarantees.specs.NeverRefused.{SendsIffPasses, OpensOnClosure, NeverRefused, PassesIffExtendable}
 use Rattle.guarantees.proofs.Held.{heldOf, held-fresh, held-legal, opened-positive}
 use Rattle.guarantees.proofs.Lost.{all-pass-iff-extendable, monitor-opens-on-closure, extendable-same, sends-iff-passes-on-closure}
-use Rattle.guarantees.proofs.Generating.{sent-on, sent-conforms, sends-conforming}
+use Rattle.guarantees.proofs.Generating.{sent-keeps, sent-on, sent-conforms, sends-conforming}
 use Rattle.guarantees.proofs.Total.{sending-refused, ranging-refused}
 
 -- ---- where a generator opens
@@ -132,11 +132,29 @@ module _ (p : Pair) (o : GeneratorOpens p) where
       } in
       never cs [] (r .state) begun t
 
+  -- By views, each tick sends a count that keeps the window of one tick.
+  sends-from : (v : View) (ys choices : List ℕ) → v ≡ heldOf p ys → Conforms p ys
+      → Each (λ a. (x : ℕ) × (x ≤ figureLimit) × (a ≡ result x)) (sendings v choices)
+  unfolding sendings
+  sends-from v ys [] s c = tt
+  sends-from v ys (choice ∷ choices) s c =
+      let (b, l) = shows v ys s c in
+      let x = chosen b choice in
+      let e : sending v choice ≡ result x = rw l in
+      let legal : Legal v = rw s (held-legal p asked ys) in (
+        (x, count-limited v legal x (sent-keeps v legal choice x e), e),
+        sends-from (viewAfter (sending v choice) v) (then ys x) choices (sent-on p asked v ys s choice x e)
+            (sent-conforms p asked v ys s choice x c e),
+      )
+
 pub opened-never-refused : OpenedNeverRefused
 opened-never-refused p r a w cs t =
     let o : GeneratorOpens p = sym (a .answer) ∙ w in
     let (all, s) = never-from p o r a cs t in
     (all, extendable-iff p o (countsSent cs) .0 (s .conforms))
+
+pub sends-at-every-tick : SendsAtEveryTick
+sends-at-every-tick p o choices = sends-from p o (fresh p) [] choices (held-fresh p) (λ i d u v w. absurd (omega arith))
 
 -- ---- 13
 -- A refused opening's state is refused with 12, and stays.

@@ -10,7 +10,7 @@ use Rattle.curves.specs.Pairs.{Pair, horizon}
 use Rattle.curves.specs.Conformance.{Extendable}
 use Rattle.curves.specs.Ticks.{passed}
 use Rattle.curves.specs.Questions.{result, refusal}
-use Rattle.bounds.specs.Bounds.{RoomFor}
+use Rattle.bounds.specs.Bounds.{figureLimit, RoomFor}
 use Rattle.closure.specs.Closing.{givenClosing, closing}
 use Rattle.closure.specs.Theorems.{PassesFour, GivesClosure, closureOf}
 use Rattle.history.specs.States.{viewOf}
@@ -55,6 +55,12 @@ abbrev pub OpenedNeverRefused : Type 0
 OpenedNeverRefused =
     (p : Pair) (o : OpenedGenerator) → GeneratorOpened p o → WasOpened o → (cs : List Call) → Calls (o .state) cs
     → Each NotRefused cs × Extendable p (countsSent cs)
+
+-- By views: every tick of a list of choices sends a count, of at most 16,776,960. So no entry of a script is a refusal.
+abbrev pub SendsAtEveryTick : Type 0
+SendsAtEveryTick =
+    (p : Pair) → GeneratorOpens p → (choices : List ℕ)
+    → Each (λ a. (x : ℕ) × (x ≤ figureLimit) × (a ≡ result x)) (sendings (fresh p) choices)
 
 -- A state that an opening and calls led to, or one equal to it. The opening may have been refused.
 pub record Reached (g : Generator) : Type 0 where
