@@ -1,25 +1,25 @@
 -- Request P3, and demand 3's last two sentences: a generator that was opened is never refused, over any list of calls, and a closure opens
 -- one. Assumes nothing.
-use Rattle.laws.proofs.Base.{ℕ, _-_, _≤_, _≡_, refl, sym, ap, _∙_, subst, List, [], _∷_, _++_, append-assoc, append-nil, _↔_, arith}
+use Rattle.laws.proofs.Base.{ℕ, _-_, _≤_, _≡_, refl, sym, ap, _∙_, subst, List, [], _∷_, _++_, append-assoc, append-nil, _↔_, ⊎-elim, le-refl, arith}
 use mathlib.Core.Logic.{Iff·trans, Iff·symm}
 use Rattle.laws.specs.Tests.{Each}
-use Rattle.curves.specs.Streams.{countLimit}
-use Rattle.curves.specs.Pairs.{Pair, horizon, Equal}
-use Rattle.curves.specs.Conformance.{Conforms, Extendable}
+use Rattle.curves.specs.Streams.{countLimit, sum}
+use Rattle.curves.specs.Pairs.{Pair, horizon, upperAt, lowerAt, Equal}
+use Rattle.curves.specs.Conformance.{Inside, Conforms, Extendable}
 use Rattle.curves.specs.Ticks.{then, passed}
 use Rattle.curves.specs.Rounds.{Causal}
 use Rattle.curves.specs.Questions.{AllYes, Reply, result, refusal}
 use Rattle.curves.proofs.Asked.{no-refusal}
 use Rattle.curves.proofs.Figures.{full-same}
-use Rattle.curves.proofs.Closure.{one-more-tick, causal-takes-no-round, causal-iff-no-round}
+use Rattle.curves.proofs.Closure.{one-more-tick, causal-takes-no-round, causal-iff-no-round, closure-streams}
 use Rattle.curves.proofs.Verdicts.{range-newest}
 use Rattle.bounds.specs.Bounds.{figureLimit, pairQuestions}
 use Rattle.bounds.proofs.Said.{asking-yes}
-use Rattle.closure.specs.Theorems.{PassesFour, GivesClosure, closureOf, room}
+use Rattle.closure.specs.Theorems.{PassesFour, GivesClosure, closureOf, room, MetBySome}
 use Rattle.closure.proofs.Said.{closed-is, gives-passes}
 use Rattle.closure.proofs.Room.{room-passes}
-use Rattle.closure.proofs.Given.{arrived, given-even}
-use Rattle.closure.proofs.Promised.{closure-passes, given-is-causal, conforms-iff-extendable, causal-iff-given-back}
+use Rattle.closure.proofs.Given.{arrived, given-horizon, given-even, refused-iff-no-stream, else-closed}
+use Rattle.closure.proofs.Promised.{figures-met, closure-passes, given-is-causal, conforms-iff-extendable, causal-iff-given-back}
 use Rattle.history.specs.States.{View, viewOf, Legal}
 use Rattle.history.specs.Opening.{opening, fresh, zeroHistory, Begun}
 use Rattle.history.proofs.Histories.{horizon-seen}
@@ -36,8 +36,8 @@ use Rattle.generator.specs.Calls.{viewAfter, sendings, Call, ticked, ranged, Ca
 use Rattle.generator.proofs.Said.{range-answer, ranging-bad, ranging-range, count-limited, generator-next}
 use Rattle.generator.proofs.Opening.{opening-yes, opening-fifteenth, opened-from}
 use Rattle.guarantees.specs.Exact.{Answers, AllPass}
-use Rattle.guarantees.specs.NeverRefused.{GeneratorOpens, GivenBack, OpensIffGivenBack, FifteenIffNotGivenBack, NotRefused}
-use Rattle.guarantees.specs.NeverRefused.{OpenedNeverRefused, SendsAtEveryTick, Reached, NoCountOnlyUnreached, SendsIffExtendable}
+use Rattle.guarantees.specs.NeverRefused.{GeneratorOpens, GivenBack, OpensIffGivenBack, FifteenIffNotGivenBack, OpensIffFiguresMet}
+use Rattle.guarantees.specs.NeverRefused.{NotRefused, OpenedNeverRefused, SendsAtEveryTick, Reached, NoCountOnlyUnreached, SendsIffExtendable}
 use Rattle.guarantees.specs.NeverRefused.{SendsIffPasses, OpensOnClosure, NeverRefused, PassesIffExtendable}
 use Rattle.guarantees.proofs.Held.{heldOf, held-fresh, held-legal, opened-positive}
 use Rattle.guarantees.proofs.Lost.{all-pass-iff-extendable, monitor-opens-on-closure, extendable-same, sends-iff-passes-on-closure}
@@ -66,6 +66,34 @@ fifteen-iff-not-given-back p found ok = (
   (λ e k. no-refusal tt 15 (sym (opens-iff-given-back p found (ok .1 .1 .0) .1 k) ∙ e)),
   λ n. sym (opening-fifteenth p (ok .0, (ok .1 .0, (ok .1 .1 .1 .0, tt))) (λ c. n (given-back p found ok c))),
 )
+
+-- Where every figure is met, there is a stream, so a closure; and the streams that meet its figures and the pair's conform to both.
+AllMet : Pair → Type 0
+AllMet p = (d : ℕ) → 1 ≤ d → d ≤ horizon p → MetBySome p d (upperAt p d) × MetBySome p d (lowerAt p d)
+
+met-gives : (p : Pair) → AllYes (pairQuestions p) → AllMet p → GivesClosure p room
+unfolding AllMet
+met-gives p ys met =
+    let ok = room-passes p ys in
+    let (s, c, m) = met 1 (le-refl 1) (ys .0 .0) .0 in
+    ⊎-elim (λ e. absurd (refused-iff-no-stream p room ok .0 e s c)) (λ g. g) (else-closed p room ok)
+
+met-equal : (p : Pair) (g : GivesClosure p room) → AllMet p → Equal (closureOf p room) p
+unfolding AllMet
+met-equal p g met =
+    let is = given-horizon p room g in
+    record { horizons = is; uppers = λ d u v. both d u (omega arith) .0; lowers = λ d u v. both d u (omega arith) .1 }
+  where
+    both : (d : ℕ) → 1 ≤ d → d ≤ horizon p
+        → (upperAt (closureOf p room) d ≡ upperAt p d) × (lowerAt (closureOf p room) d ≡ lowerAt p d)
+    both d u v =
+        let closed = closure-streams p (closureOf p room) _ (arrived p room g) in
+        let v′ : d ≤ horizon (closureOf p room) = omega (arith, given-horizon p room g) in
+        let ((s, c, (i, e)), (t, k, (j, f))) = met d u v in
+        let ((s′, c′, (i′, e′)), (t′, k′, (j′, f′))) = figures-met p room g d u v in
+        let above : Inside (closureOf p room) d (sum (s .counts) i d) = closed (s .counts) .0 c i d u v′ in
+        let below : Inside (closureOf p room) d (sum (t .counts) j d) = closed (t .counts) .0 k j d u v′ in
+        omega (arith, e, f, e′, f′, above, below, c′ i′ d u v, k′ j′ d u v)
 
 -- ---- a pair that a generator was opened on
 module _ (p : Pair) (o : GeneratorOpens p) where
@@ -146,6 +174,16 @@ module _ (p : Pair) (o : GeneratorOpens p) where
         sends-from (viewAfter (sending v choice) v) (then ys x) choices (sent-on p asked v ys s choice x e)
             (sent-conforms p asked v ys s choice x c e),
       )
+
+pub opens-iff-figures-met : OpensIffFiguresMet
+unfolding AllMet
+opens-iff-figures-met p ys = (
+  (λ o. subst (λ q. (d : ℕ) → 1 ≤ d → d ≤ horizon p → MetBySome p d (upperAt q d) × MetBySome p d (lowerAt q d)) (own p o)
+      (figures-met p room (back p o .0))),
+  λ met.
+      let g = met-gives p ys met in
+      sym (opening-yes p ys (causal-iff-given-back p room (room-passes p ys) .1 (g, met-equal p g met))),
+)
 
 pub opened-never-refused : OpenedNeverRefused
 opened-never-refused p r a w cs t =

@@ -6,13 +6,13 @@ use mathlib.Core.List.{List, map}
 use mathlib.Core.Logic.{_↔_}
 use Rattle.laws.specs.Tests.{Each}
 use Rattle.curves.specs.Streams.{countLimit}
-use Rattle.curves.specs.Pairs.{Pair, horizon}
+use Rattle.curves.specs.Pairs.{Pair, horizon, upperAt, lowerAt}
 use Rattle.curves.specs.Conformance.{Extendable}
 use Rattle.curves.specs.Ticks.{passed}
-use Rattle.curves.specs.Questions.{result, refusal}
-use Rattle.bounds.specs.Bounds.{figureLimit, RoomFor}
+use Rattle.curves.specs.Questions.{AllYes, result, refusal}
+use Rattle.bounds.specs.Bounds.{figureLimit, pairQuestions, RoomFor}
 use Rattle.closure.specs.Closing.{givenClosing, closing}
-use Rattle.closure.specs.Theorems.{PassesFour, GivesClosure, closureOf}
+use Rattle.closure.specs.Theorems.{PassesFour, GivesClosure, closureOf, MetBySome}
 use Rattle.history.specs.States.{viewOf}
 use Rattle.history.specs.Opening.{fresh}
 use Rattle.monitor.specs.Monitoring.{MonitorView, judged}
@@ -41,6 +41,12 @@ OpensIffGivenBack = (p found : Pair) → RoomFor (horizon p) found → Generator
 -- Of lists that pass questions 1, 2 and 4, it is refused for all others with 15.
 abbrev pub FifteenIffNotGivenBack : Type 0
 FifteenIffNotGivenBack = (p found : Pair) → PassesFour p found → (generatorOpening p ≡ refusal 15) ↔ (¬ GivenBack p found)
+
+-- By streams alone: exactly on the pairs each of whose figures is met by an unbounded stream that conforms.
+abbrev pub OpensIffFiguresMet : Type 0
+OpensIffFiguresMet =
+    (p : Pair) → AllYes (pairQuestions p)
+    → GeneratorOpens p ↔ ((d : ℕ) → 1 ≤ d → d ≤ horizon p → MetBySome p d (upperAt p d) × MetBySome p d (lowerAt p d))
 
 -- ---- a generator that was opened
 abbrev pub WasOpened : OpenedGenerator → Type 0
