@@ -4,11 +4,11 @@ use Rattle.laws.proofs.Base.{ℕ, _≤_, _≡_, refl, sym, ap, _∙_, subst, Li
 use Rattle.laws.proofs.Base.{length-replicate}
 use types.Run.{OneOf, miss}
 use denote.Enum.Declared.{tagOf}
-use Rattle.curves.specs.Pairs.{Pair, pairOf}
+use Rattle.curves.specs.Pairs.{Pair, pairOf, horizon}
 use Rattle.curves.specs.Rounds.{whole, Arrives}
 use Rattle.curves.specs.Questions.{AllYes, FirstNo}
 use Rattle.curves.specs.Theorems.{Closes}
-use Rattle.bounds.specs.Bounds.{maxHorizon, pairQuestions}
+use Rattle.bounds.specs.Bounds.{maxHorizon, pairQuestions, RoomFor}
 use Rattle.closure.specs.declared.Closing.{Closing}
 use Rattle.closure.specs.declared.Closing.the-variants.{Closed, UpperLength, LowerLength, ResultLength, FigureLimit, NoClosure}
 use Rattle.closure.proofs.Closing as the-closing
@@ -17,11 +17,20 @@ use Rattle.closure.specs.Answers.{closingNumber, closingRounds, closingA
 use Rattle.closure.specs.Theorems.{PassesFour, room}
 use Rattle.closure.proofs.Said.{refused-is, closed-is, cases}
 
+-- ---- the pair's own questions among closing's first four
+pub four-yes : (p found : Pair) → AllYes (pairQuestions p) → RoomFor (horizon p) found → PassesFour p found
+four-yes p found ys wide = (ys .0, (ys .1 .0, (wide, (ys .1 .1 .0, tt))))
+
+pub own-yes : (p found : Pair) → PassesFour p found → AllYes (pairQuestions p)
+own-yes p found ok = (ok .0, (ok .1 .0, (ok .1 .1 .1 .0, tt)))
+
+-- ---- with room for every closure
 module _ (p : Pair) where
+  wide : horizon p ≤ maxHorizon → RoomFor (horizon p) room
+  wide h = let l = length-replicate {A = ℕ} maxHorizon 0 in (omega arith, omega arith)
+
   pub room-passes : AllYes (pairQuestions p) → PassesFour p room
-  room-passes ys =
-      let wide = length-replicate {A = ℕ} maxHorizon 0 in
-      (ys .0, (ys .1 .0, ((omega (arith, wide, ys .0 .1), omega (arith, wide, ys .0 .1)), (ys .1 .1 .0, tt))))
+  room-passes ys = four-yes p room ys (wide (ys .0 .1))
 
   -- Lists of zeros, lent for results, are such room.
   pub in-zeros : (a : ClosingAnswer) (us ls : List ℕ) → us ≡ replicate maxHorizon 0 → ls ≡ replicate maxHorizon 0
@@ -44,8 +53,7 @@ module _ (p : Pair) where
   no-three : (n : ℕ) → FirstNo (closingQuestions p room) n → No n
   no-three n (inl a) = inl (inl a)
   no-three n (inr (y, inl a)) = inl (inr (y, inl a))
-  no-three n (inr (y, inr (z, inl a))) =
-      let wide = length-replicate {A = ℕ} maxHorizon 0 in absurd (a .1 (omega (arith, wide, y .1), omega (arith, wide, y .1)))
+  no-three n (inr (y, inr (z, inl a))) = absurd (a .1 (wide (y .1)))
   no-three n (inr (y, inr (z, inr (u, inl a)))) = inl (inr (y, inr (z, inl a)))
   no-three n (inr (y, inr (z, inr (u, inr (v, inl (e, no₅)))))) = inr (e, (y, (z, (v, tt))), no₅)
   no-three n (inr (y, inr (z, inr (u, inr (v, inr (c, f)))))) = absurd f
@@ -91,7 +99,7 @@ module _ (p : Pair) where
       yes-told : PassesFour p room → Closes p → Told c
       yes-told ok (n, q, a) =
           let k = e ∙ closed-is p room n q ok a in
-          closed-told c (ap (λ r. r .number) k) (ok .0, (ok .1 .0, (ok .1 .1 .1 .0, tt))) q
+          closed-told c (ap (λ r. r .number) k) (own-yes p room ok) q
           (subst (λ m. Arrives whole p m q) (sym (ap (λ r. r .rounds) k)) a)
 
 -- An arm for the cases that are left when 1, 2, 4 and the closure have theirs.

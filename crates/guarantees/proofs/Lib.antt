@@ -5,6 +5,7 @@ pub mod Rulings
 pub mod Monitoring
 pub mod Generating
 pub mod Lost
+pub mod Opens
 pub mod NeverRefused
 pub mod Cost
 pub mod Marked

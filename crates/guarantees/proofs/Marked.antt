@@ -1,5 +1,5 @@
 -- Document 01's marked figures hold: what is computed of each case of the list, and what it proves. Assumes nothing.
-use Rattle.laws.proofs.Base.{ℕ, _≤_, _≡_, refl, sym, ap, _∙_, Bool, true, false, List, [], _∷_, _++_, map, ⊎-map, Dec·and, decLe, decLt}
+use Rattle.laws.proofs.Base.{ℕ, _≡_, refl, sym, ap, _∙_, Bool, true, false, List, [], _∷_, _++_, map, ⊎-map, Dec·and, decLe, decLt}
 use Rattle.laws.proofs.Base.{ℕ-discrete, arith, length}
 use mathlib.Core.Logic.{Dec·not}
 use lib.Dec.{T}
@@ -21,9 +21,9 @@ use Rattle.curves.proofs.Closure.{causal?}
 use Rattle.curves.proofs.Computed.{left?, left, same?, runs?, arrives?, arrives-computed, crosses?, crosses-by?, crosses-by}
 use Rattle.curves.proofs.NextTick.{range-from, range?}
 use Rattle.curves.proofs.Verdicts.{inside?, judged?, find, rejected, verdict?}
-use Rattle.closure.specs.Theorems.{PassesFour, GivesClosure, closureOf, room}
+use Rattle.closure.specs.Theorems.{GivesClosure, closureOf, room}
 use Rattle.closure.proofs.Said.{refused-is, closed-is, fifth}
-use Rattle.closure.proofs.Room.{room-passes}
+use Rattle.closure.proofs.Room.{four-yes, room-passes}
 use Rattle.closure.proofs.Given.{arrived, given-even}
 use Rattle.csv.specs.Text.{Bytes, records, fields}
 use Rattle.csv.specs.Numbers.{valueAfter}
@@ -52,9 +52,6 @@ passes? p = left? (ask (pairQuestions p))
 asked : (p : Pair) → T (passes? p) → AllYes (pairQuestions p)
 unfolding passes?
 asked p t = left (ask (pairQuestions p)) t
-
-four : (p found : Pair) → T (passes? p) → horizon p ≤ length (found .upper) → horizon p ≤ length (found .lower) → PassesFour p found
-four p found t u l = let ys = asked p t in (ys .0, (ys .1 .0, ((u, l), (ys .1 .1 .0, tt))))
 
 -- Questions 6 to 10, likewise.
 abbrev textQuestions : Bytes → List Question
@@ -107,11 +104,11 @@ holds (reads t q) (yes-told, same) =
     let g = pair-iff-all-yes t found .1
     (ys .0, yes-append (recordQuestions [] (later t)) _ rs (more .0, ((omega arith, omega arith), tt))) in
     (g, rw (given-is-text-pair t found g .1) is)
-holds (closes p n q) (ok, a) = λ found u l. closed-is p found n q (four p found ok u l) (arrives-computed p n q a)
+holds (closes p n q) (ok, a) = λ found u l. closed-is p found n q (four-yes p found (asked p ok) (u, l)) (arrives-computed p n q a)
 holds (refuses p) (ok, x) =
     λ found u l.
     let (k, crosses) = crosses-by p 4 x in
-    refused-is p found 5 (fifth p found (four p found ok u l) (λ a. never-both p (a .1) (a .0) k (a .2) crosses))
+    refused-is p found 5 (fifth p found (four-yes p found (asked p ok) (u, l)) (λ a. never-both p (a .1) (a .0) k (a .2) crosses))
 holds (goesOn p xs b) (ok, opened, pass, shown) = (opened, pass-conforms p xs ok pass, shown, λ choice. rw shown)
 holds (losesFirst p x xs) (ok, pass, (n, q, t, full, told)) =
     let a = arrives-computed p n q t in

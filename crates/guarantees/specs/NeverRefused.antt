@@ -43,10 +43,11 @@ abbrev pub FifteenIffNotGivenBack : Type 0
 FifteenIffNotGivenBack = (p found : Pair) → PassesFour p found → (generatorOpening p ≡ refusal 15) ↔ (¬ GivenBack p found)
 
 -- By streams alone: exactly on the pairs each of whose figures is met by an unbounded stream that conforms.
-abbrev pub OpensIffFiguresMet : Type 0
-OpensIffFiguresMet =
-    (p : Pair) → AllYes (pairQuestions p)
-    → GeneratorOpens p ↔ ((d : ℕ) → 1 ≤ d → d ≤ horizon p → MetBySome p d (upperAt p d) × MetBySome p d (lowerAt p d))
+abbrev pub AllMet : Pair → Type 0
+AllMet p = (d : ℕ) → 1 ≤ d → d ≤ horizon p → MetBySome p d (upperAt p d) × MetBySome p d (lowerAt p d)
+
+abbrev pub OpensIffAllMet : Type 0
+OpensIffAllMet = (p : Pair) → AllYes (pairQuestions p) → GeneratorOpens p ↔ AllMet p
 
 -- ---- a generator that was opened
 abbrev pub WasOpened : OpenedGenerator → Type 0
