@@ -102,7 +102,7 @@ int main(void)
         return 1;
     judge_and_print(closed_upper, closed_lower, 4, script, 10);
     judge_and_print(closed_upper, closed_lower, 4, bad, 6);
-    /* On the first pair, as it is written: each window of these six ticks keeps its figures, but nothing that begins with 0 goes on. */
+    /* On the first pair, as it is written: each window of these six ticks keeps its figures, but none that begins so goes on for ever. */
     judge_and_print(one_upper, one_lower, 5, lost, 6);
     return 0;
 }

@@ -11,6 +11,7 @@ use Rattle.curves.proofs.Figures.{same-sym, given-full}
 use Rattle.curves.proofs.Agreement.{given-equal}
 use Rattle.curves.proofs.Arrival.{arrives-or-crosses}
 use Rattle.curves.proofs.Kept.{crossed-has-no-stream}
+use Rattle.curves.proofs.NextTick.{empty-conforms}
 use Rattle.curves.proofs.Closure.{arrives-equal, closure-horizon, closure-begins}
 use Rattle.closure.specs.Closing.{refusedClosing, givenClosing, closing}
 use Rattle.closure.specs.Theorems.{PassesFour, GivesClosure, closureOf, ClosureIsArrivedAt, RefusedIffNoStream, ElseClosed}
@@ -82,7 +83,7 @@ streamOf p found ok s c = record { counts = s; within = within-limit p found ok 
 -- ---- a stream conforms exactly where the rounds arrive
 some-stream : (p found : Pair) → PassesFour p found → Closes p → (s : Stream) × Conforms∞ p (s .counts)
 some-stream p found ok a =
-    let (s, b, c) = closure-begins p (a .1) (a .0) (a .2) (ok .0 .0) [] (λ i d u v w. absurd (omega arith)) in
+    let (s, b, c) = closure-begins p (a .1) (a .0) (a .2) (ok .0 .0) [] (empty-conforms (a .1)) in
     (streamOf p found ok s c, c)
 
 pub refused-iff-no-stream : RefusedIffNoStream

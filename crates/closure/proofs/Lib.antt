@@ -1,7 +1,7 @@
 -- What is proved of closing, and the laws that the functions' proofs cite. Assumes nothing.
 pub mod Said
-pub mod Room
 pub mod Given
+pub mod Room
 pub mod Promised
 pub mod Widths
 mod Floats

@@ -12,10 +12,11 @@ use Rattle.bounds.specs.Bounds.{maxHorizon, pairQuestions, RoomFor}
 use Rattle.closure.specs.declared.Closing.{Closing}
 use Rattle.closure.specs.declared.Closing.the-variants.{Closed, UpperLength, LowerLength, ResultLength, FigureLimit, NoClosure}
 use Rattle.closure.proofs.Closing as the-closing
-use Rattle.closure.specs.Closing.{closingQuestions, ClosingAnswer, refusedClosing, closing}
-use Rattle.closure.specs.Answers.{closingNumber, closingRounds, closingAnswer}
-use Rattle.closure.specs.Theorems.{PassesFour, room}
-use Rattle.closure.proofs.Said.{refused-is, closed-is, cases}
+use Rattle.closure.specs.Closing.{closingQuestions, ClosingAnswer, closing}
+use Rattle.closure.specs.Answers.{closingAnswer}
+use Rattle.closure.specs.Theorems.{PassesFour, GivesClosure, closureOf, room}
+use Rattle.closure.proofs.Said.{refused-is, closed-is, cases, gives-passes}
+use Rattle.closure.proofs.Given.{arrived}
 
 -- ---- the pair's own questions among closing's first four
 pub four-yes : (p found : Pair) → AllYes (pairQuestions p) → RoomFor (horizon p) found → PassesFour p found
@@ -46,7 +47,7 @@ module _ (p : Pair) where
   Told FigureLimit = FirstNo (pairQuestions p) 4
   Told NoClosure = AllYes (pairQuestions p) × (¬ Closes p)
 
-  -- Question n is the first that is answered no, with the pair's own apart.
+  -- n is the first no of the pair's own questions, or these are all answered yes and it is 5.
   abbrev No : ℕ → Type 0
   No n = FirstNo (pairQuestions p) n ⊎ ((n ≡ 5) × AllYes (pairQuestions p) × (¬ Closes p))
 
@@ -58,49 +59,37 @@ module _ (p : Pair) where
   no-three n (inr (y, inr (z, inr (u, inr (v, inl (e, no₅)))))) = inr (e, (y, (z, (v, tt))), no₅)
   no-three n (inr (y, inr (z, inr (u, inr (v, inr (c, f)))))) = absurd f
 
-  -- The numbers of the pair's own.
-  numbered : (n : ℕ) → FirstNo (pairQuestions p) n → (1 ≤ n) × (¬ (n ≡ 3)) × (¬ (n ≡ 5))
-  numbered n (inl (e, f)) = (omega arith, (λ z. omega arith), λ z. omega arith)
-  numbered n (inr (y, inl (e, f))) = (omega arith, (λ z. omega arith), λ z. omega arith)
-  numbered n (inr (y, inr (z, inl (e, f)))) = (omega arith, (λ z. omega arith), λ z. omega arith)
-  numbered n (inr (y, inr (z, inr (u, f)))) = absurd f
+  no-numbered : (n : ℕ) → 1 ≤ n → n ≡ closing p room .number → No n
+  no-numbered n h e =
+      ⊎-elim
+      (λ (m, f). no-three n (subst (FirstNo (closingQuestions p room)) (sym (e ∙ ap (λ a. a .number) (refused-is p room m f))) f))
+      (λ (ok, (m, q, a)). absurd (omega (arith, ap (λ r. r .number) (closed-is p room m q ok a))))
+      (cases p room)
 
-  own-told : (c : Closing) → FirstNo (pairQuestions p) (closingNumber c) → Told c
-  own-told (Closed n) f = absurd (omega (arith, numbered 0 f .0))
-  own-told UpperLength f = f
-  own-told LowerLength f = f
-  own-told ResultLength f = absurd (numbered 3 f .1 refl)
-  own-told FigureLimit f = f
-  own-told NoClosure f = absurd (numbered 5 f .2 refl)
+  -- The pair's own questions have neither the number 3 nor 5.
+  own-numbers : (n : ℕ) → FirstNo (pairQuestions p) n → (¬ (n ≡ 3)) × (¬ (n ≡ 5))
+  own-numbers n (inl (e, f)) = ((λ z. omega arith), λ z. omega arith)
+  own-numbers n (inr (y, inl (e, f))) = ((λ z. omega arith), λ z. omega arith)
+  own-numbers n (inr (y, inr (z, inl (e, f)))) = ((λ z. omega arith), λ z. omega arith)
+  own-numbers n (inr (y, inr (z, inr (u, f)))) = absurd f
 
-  fifth-told : (c : Closing) → closingNumber c ≡ 5 → AllYes (pairQuestions p) → ¬ Closes p → Told c
-  fifth-told (Closed n) e ys no₅ = absurd (omega arith)
-  fifth-told UpperLength e ys no₅ = absurd (omega arith)
-  fifth-told LowerLength e ys no₅ = absurd (omega arith)
-  fifth-told ResultLength e ys no₅ = absurd (omega arith)
-  fifth-told FigureLimit e ys no₅ = absurd (omega arith)
-  fifth-told NoClosure e ys no₅ = (ys, no₅)
+  own-no : (n : ℕ) → 1 ≤ n → ¬ (n ≡ 5) → n ≡ closing p room .number → FirstNo (pairQuestions p) n
+  own-no n h other e = ⊎-elim (λ f. f) (λ (five, ys, no₅). absurd (other five)) (no-numbered n h e)
 
-  closed-told : (c : Closing) → closingNumber c ≡ 0 → AllYes (pairQuestions p) → (q : Pair) → Arrives whole p (closingRounds c) q → Told c
-  closed-told (Closed n) e ys q a = (ys, (q, a))
-  closed-told UpperLength e ys q a = absurd (omega arith)
-  closed-told LowerLength e ys q a = absurd (omega arith)
-  closed-told ResultLength e ys q a = absurd (omega arith)
-  closed-told FigureLimit e ys q a = absurd (omega arith)
-  closed-told NoClosure e ys q a = absurd (omega arith)
+  fifth-no : 5 ≡ closing p room .number → AllYes (pairQuestions p) × (¬ Closes p)
+  fifth-no e = ⊎-elim (λ f. absurd (own-numbers 5 f .1 refl)) (λ (five, ys, no₅). (ys, no₅)) (no-numbered 5 (omega arith) e)
 
   pub told : (c : Closing) (left : Pair) → closingAnswer c left ≡ closing p room → Told c
-  told c left e = ⊎-elim (λ (n, f). no n (e ∙ refused-is p room n f) (no-three n f)) (λ (ok, k). yes-told ok k) (cases p room)
-    where
-      no : (n : ℕ) → closingAnswer c left ≡ refusedClosing n room → No n → Told c
-      no n k (inl f) = own-told c (subst (FirstNo (pairQuestions p)) (sym (ap (λ a. a .number) k)) f)
-      no n k (inr (five, ys, no₅)) = fifth-told c (ap (λ a. a .number) k ∙ five) ys no₅
-
-      yes-told : PassesFour p room → Closes p → Told c
-      yes-told ok (n, q, a) =
-          let k = e ∙ closed-is p room n q ok a in
-          closed-told c (ap (λ r. r .number) k) (own-yes p room ok) q
-          (subst (λ m. Arrives whole p m q) (sym (ap (λ r. r .rounds) k)) a)
+  told (Closed n) left e =
+      let g : GivesClosure p room = sym (ap (λ a. a .number) e) in (
+        own-yes p room (gives-passes p room g .0),
+        (closureOf p room, subst (λ m. Arrives whole p m (closureOf p room)) (sym (ap (λ a. a .rounds) e)) (arrived p room g)),
+      )
+  told UpperLength left e = own-no 1 (omega arith) (λ z. omega arith) (ap (λ a. a .number) e)
+  told LowerLength left e = own-no 2 (omega arith) (λ z. omega arith) (ap (λ a. a .number) e)
+  told ResultLength left e = own-numbers 3 (own-no 3 (omega arith) (λ z. omega arith) (ap (λ a. a .number) e)) .0 refl
+  told FigureLimit left e = own-no 4 (omega arith) (λ z. omega arith) (ap (λ a. a .number) e)
+  told NoClosure left e = fifth-no (ap (λ a. a .number) e)
 
 -- An arm for the cases that are left when 1, 2, 4 and the closure have theirs.
 pub others : (P : Closing → Type 0) → P ResultLength → P NoClosure → (c : Closing) → OneOf (3 ∷ 5 ∷ []) (tagOf the-closing.the-type c) → P c

@@ -23,7 +23,7 @@ GivesClosure p found = closing p found .number ≡ 0
 abbrev pub closureOf : Pair → Pair → Pair
 closureOf p found = first (horizon p) (closing p found .results)
 
--- Result lists with room for the closure of every horizon. What they hold has no effect.
+-- Result lists with room for the closure of every horizon. What they hold has no effect on it.
 abbrev pub room : Pair
 room = pairOf (replicate maxHorizon 0) (replicate maxHorizon 0)
 
@@ -67,10 +67,12 @@ FollowsLower = (p found : Pair) → GivesClosure p found → Follows p (lowerAt 
 abbrev pub MetBySome : Pair → ℕ → ℕ → Type 0
 MetBySome p d x = (s : Stream) × Conforms∞ p (s .counts) × MetIn (s .counts) d x
 
+-- Each figure of q is, up to the horizon of p.
+abbrev pub AllMet : Pair → Pair → Type 0
+AllMet p q = (d : ℕ) → 1 ≤ d → d ≤ horizon p → MetBySome p d (upperAt q d) × MetBySome p d (lowerAt q d)
+
 abbrev pub FiguresMet : Type 0
-FiguresMet =
-    (p found : Pair) → GivesClosure p found → (d : ℕ) → 1 ≤ d → d ≤ horizon p
-    → MetBySome p d (upperAt (closureOf p found) d) × MetBySome p d (lowerAt (closureOf p found) d)
+FiguresMet = (p found : Pair) → GivesClosure p found → AllMet p (closureOf p found)
 
 -- ---- Demand 3, its third sentence, the second half: the finite streams that conform to the closure are the extendable ones.
 abbrev pub ConformsIffExtendable : Type 0

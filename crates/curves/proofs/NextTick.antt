@@ -45,6 +45,9 @@ module _ (xs : List ℕ) (x : ℕ) where
 pub conforms-keeps : (p : Pair) (xs : List ℕ) → Conforms p xs → Keeps p xs
 conforms-keeps p xs c d j = c (length xs - d) d (j .positive) (j .within) (omega (arith, j .begun))
 
+pub empty-conforms : (p : Pair) → Conforms p []
+empty-conforms p i d u v w = absurd (omega arith)
+
 pub conforms-start : (p : Pair) (xs ys : List ℕ) → Conforms p (xs ++ ys) → Conforms p xs
 conforms-start p xs ys c i d u v w = rw (sum-start xs ys i d w) at (c i d u v (omega (arith, length-append xs ys)))
 

@@ -29,7 +29,7 @@ pub enum GeneratorOpening {
     LowerLength,
     // 4: a figure is above 16,776,960.
     FigureLimit,
-    // 15: the pair is not its own closure, or has none. The curves that closing gives are.
+    // 15: the pair is not its own closure, or has none. On what closing gives this is never the answer.
     NotClosed,
 }
 
@@ -44,7 +44,7 @@ pub enum Admissible {
     Range { lo: u32, hi: u32 },
     // 12: the state has no legal horizon, a figure above 16,776,960, or as many held ticks as its horizon or more.
     BadState,
-    // 13: no count keeps every window that ends at the next tick. No opening and its ticks lead to such a state.
+    // 13: no count keeps every window that ends at the next tick. No opening, whatever ticks follow it, leads to such a state.
     NoCount,
 }
 

@@ -10,7 +10,7 @@ use Rattle.curves.specs.Conformance.{Conforms}
 use Rattle.curves.specs.Ticks.{then, Keeps}
 use Rattle.curves.specs.Questions.{result, refusal}
 use Rattle.curves.proofs.Asked.{no-refusal}
-use Rattle.curves.proofs.NextTick.{conforms-start, conforms-keeps, keeps-conforms, keeps-has-range, range-whole}
+use Rattle.curves.proofs.NextTick.{empty-conforms, conforms-start, conforms-keeps, keeps-conforms, keeps-has-range, range-whole}
 use Rattle.curves.proofs.Verdicts.{keeps-newest}
 use Rattle.history.specs.States.{View, Legal}
 use Rattle.history.specs.Opening.{opening, fresh}
@@ -138,7 +138,7 @@ module _ (p : Pair) (o : opening p ≡ result tt) where
 pub sends-conforming : SendsConforming
 sends-conforming p o xs = (
   conforming-sent p o (fresh p) [] xs (held-fresh p),
-  λ t. sent-conforming p o (fresh p) (t .0) [] xs (held-fresh p) (λ i d u v w. absurd (omega arith)) (t .2),
+  λ t. sent-conforming p o (fresh p) (t .0) [] xs (held-fresh p) (empty-conforms p) (t .2),
 )
 
 -- ---- only the view of a state has an effect

@@ -1,18 +1,18 @@
 -- Request P2: an opened monitor passes the extendable streams, and 'lost' is what it says of the others that conform. Assumes nothing.
-use Rattle.laws.proofs.Base.{ℕ, _≡_, refl, sym, ap, _∙_, List, [], _↔_, ⊎-elim, decLt, arith, length}
+use Rattle.laws.proofs.Base.{ℕ, _≤_, _≡_, refl, sym, ap, _∙_, List, [], _↔_, ⊎-elim, decLt, arith, length}
 use mathlib.Core.Logic.{Iff·trans, Iff·symm, Iff·and, Iff·not}
 use Rattle.laws.specs.Tests.{Each}
-use Rattle.curves.specs.Streams.{Stream}
+use Rattle.curves.specs.Streams.{countLimit, Stream}
 use Rattle.curves.specs.Pairs.{Pair, horizon}
 use Rattle.curves.specs.Conformance.{Conforms, Conforms∞, Extendable}
 use Rattle.curves.specs.Ticks.{then, Keeps, passed, tooMany, tooFew}
-use Rattle.curves.specs.Questions.{AllYes, refusal}
+use Rattle.curves.specs.Questions.{AllYes, result, refusal}
 use Rattle.curves.specs.Theorems.{Closes}
 use Rattle.curves.proofs.Asked.{no-refusal}
 use Rattle.curves.proofs.Closure.{closure-streams, causal-takes-no-round}
 use Rattle.curves.proofs.Filled.{closure-filled}
 use Rattle.curves.proofs.Extension.{start-conforms}
-use Rattle.curves.proofs.NextTick.{conforms-keeps, keeps-conforms}
+use Rattle.curves.proofs.NextTick.{empty-conforms, conforms-keeps, keeps-conforms}
 use Rattle.bounds.specs.Bounds.{pairQuestions}
 use Rattle.closure.specs.Theorems.{GivesClosure, closureOf, room}
 use Rattle.closure.proofs.Said.{closed-is, gives-passes}
@@ -22,16 +22,17 @@ use Rattle.closure.proofs.Promised.{closure-passes, conforms-iff-extendable, gi
 use Rattle.monitor.specs.Monitoring.{MonitorView, Ruling, judged, lost}
 use Rattle.monitor.specs.Opening.{monitorOpening, freshMonitor}
 use Rattle.monitor.specs.Calls.{afterTicks, rulings}
+use Rattle.generator.specs.Generating.{sending}
 use Rattle.monitor.proofs.Opening.{opening-yes, opening-fifth, opened-yes, opened-gives}
 use Rattle.guarantees.specs.Exact.{LegalUnfailed, Answers, JudgedOutside, Opens, AllPass, RightOfWholeStream}
 use Rattle.guarantees.specs.Exact.{NothingPassesAfter}
 use Rattle.guarantees.specs.Lost.{MonitorRefusedIffNoStream, AllPassIffExtendable, LostIffNotExtendable, MonitorOpensOnClosure}
 use Rattle.guarantees.specs.Lost.{PassedIffExtendable, OutsideIffNotConforming, LostBeforeHorizon, NeverLostOnClosure}
-use Rattle.guarantees.specs.Lost.{SendsIffPassesOnClosure}
+use Rattle.guarantees.specs.Lost.{MonitorNeverRefused, PassesIffExtendable}
 use Rattle.guarantees.proofs.Rulings.{RightRuling, outside-iff, neither-iff}
 use Rattle.guarantees.proofs.Generating.{sends-iff-neither}
 use Rattle.guarantees.proofs.Monitoring.{NotLost, after, start, legal, keeps-whole, right-of-all, pass-iff, after-passing}
-use Rattle.guarantees.proofs.Monitoring.{failed-after, never-lost}
+use Rattle.guarantees.proofs.Monitoring.{failed-after, answered-all, never-lost}
 
 -- ---- opening
 pub monitor-refused-iff-no-stream : MonitorRefusedIffNoStream
@@ -53,9 +54,6 @@ monitor-refused-iff-no-stream p ys = (there, back)
 -- ---- a monitor that was opened on p
 extendable-conforms : (p : Pair) (xs : List ℕ) → Extendable p xs → Conforms p xs
 extendable-conforms p xs (s, b, c) = start-conforms p xs (s .counts) b c
-
-empty-conforms : (p : Pair) → Conforms p []
-empty-conforms p i d u v w = absurd (omega arith)
 
 -- Behind a conforming stream, to keep every window is to conform.
 keeps-iff : (p : Pair) (xs : List ℕ) (x : ℕ) → Conforms p xs → Keeps p (then xs x) ↔ Conforms p (then xs x)
@@ -131,6 +129,9 @@ module _ (p : Pair) (o : Opens p) where
 pub all-pass-iff-extendable : AllPassIffExtendable
 all-pass-iff-extendable p o xs = passes-iff p o xs
 
+pub monitor-never-refused : MonitorNeverRefused
+monitor-never-refused p o xs = answered-all p (q p o) (yes-p p o) (yes-q p o) (same p o) (freshMonitor p) [] xs (begun p o)
+
 pub lost-iff-not-extendable : LostIffNotExtendable
 lost-iff-not-extendable p o xs es x = next-lost p o xs es x
 
@@ -189,15 +190,19 @@ monitor-opens-on-closure = opens
 pub never-lost-on-closure : NeverLostOnClosure
 never-lost-on-closure = never
 
-pub sends-iff-passes-on-closure : SendsIffPassesOnClosure
-sends-iff-passes-on-closure p found g xs es x =
-    let q : Pair = closureOf p found in
-    let o : Opens q = opens p found g in
-    let ys : List ℕ = then xs x in
-    let w : MonitorView = afterTicks (freshMonitor q) xs in
-    let f : LegalUnfailed w = now-unfailed q o xs es x in
+pub passes-iff-extendable : PassesIffExtendable
+passes-iff-extendable p found g xs =
+    Iff·trans (passes-iff (closureOf p found) (opens p found g) xs) (Iff·symm (extendable-same p found g xs))
+
+-- ---- beside a generator with the same history
+-- Where every stream that conforms is extendable, what is neither 'too many' nor 'too few' passes.
+pub sends-where-passes : (p : Pair) → Opens p → ((ys : List ℕ) → Conforms p ys ↔ Extendable p ys) → (xs : List ℕ) → AllPass p xs → (x : ℕ)
+    → let w : MonitorView = afterTicks (freshMonitor p) xs in
+    ((choice : ℕ) × (choice ≤ countLimit) × (sending (w .view) choice ≡ result x)) ↔ Answers w x (judged passed)
+sends-where-passes p o extends xs es x =
+    let w : MonitorView = afterTicks (freshMonitor p) xs in
+    let f : LegalUnfailed w = now-unfailed p o xs es x in
     Iff·trans (sends-iff-neither w f x)
     (Iff·trans (neither-iff w x f)
-    (Iff·trans (now-keeps q o xs es x)
-    (Iff·trans (conforms-iff-extendable p found g ys)
-    (Iff·trans (extendable-same p found g ys) (Iff·symm (next-passed q o xs es x))))))
+    (Iff·trans (now-keeps p o xs es x)
+    (Iff·trans (extends (then xs x)) (Iff·symm (next-passed p o xs es x)))))

@@ -1,6 +1,6 @@
 -- Document 01's marked figures hold: what is computed of each case of the list, and what it proves. Assumes nothing.
 use Rattle.laws.proofs.Base.{ℕ, _≡_, refl, sym, ap, _∙_, Bool, true, false, List, [], _∷_, _++_, map, ⊎-map, Dec·and, decLe, decLt}
-use Rattle.laws.proofs.Base.{ℕ-discrete, arith, length}
+use Rattle.laws.proofs.Base.{ℕ-discrete, arith, length, drop}
 use mathlib.Core.Logic.{Dec·not}
 use lib.Dec.{T}
 use Rattle.laws.specs.Ranges.{fold, table}
@@ -19,7 +19,7 @@ use Rattle.curves.proofs.Figures.{full-same}
 use Rattle.curves.proofs.Arrival.{never-both, arrives-once, crossed?, equal?}
 use Rattle.curves.proofs.Closure.{causal?}
 use Rattle.curves.proofs.Computed.{left?, left, same?, runs?, arrives?, arrives-computed, crosses?, crosses-by?, crosses-by}
-use Rattle.curves.proofs.NextTick.{range-from, range?}
+use Rattle.curves.proofs.NextTick.{empty-conforms, range-from, range?}
 use Rattle.curves.proofs.Verdicts.{inside?, judged?, find, rejected, verdict?}
 use Rattle.closure.specs.Theorems.{GivesClosure, closureOf, room}
 use Rattle.closure.proofs.Said.{refused-is, closed-is, fifth}
@@ -31,18 +31,18 @@ use Rattle.csv.proofs.Decisions.{digit?, numeral?, wellFormed?, inRange?}
 use Rattle.constraints.specs.Constraints.{named}
 use Rattle.constraints.specs.Reading.{later, horizonOf, textPair, question6, recordQuestions, question10}
 use Rattle.constraints.proofs.Said.{pair-iff-all-yes, given-is-text-pair}
-use Rattle.history.specs.States.{legal?}
+use Rattle.history.specs.States.{viewOf, legal?}
 use Rattle.bounds.specs.Bounds.{pairQuestions}
 use Rattle.history.specs.Opening.{fresh}
 use Rattle.monitor.specs.Monitoring.{monitorView, legalMonitor?, judged, lost, alreadyFailed, judging}
 use Rattle.monitor.specs.Opening.{freshMonitor}
 use Rattle.monitor.specs.Calls.{rulings}
 use Rattle.monitor.proofs.Opening.{opening-yes}
-use Rattle.generator.specs.Generating.{ranging}
+use Rattle.generator.specs.Generating.{ranging, sentFrom}
 use Rattle.generator.specs.Opening.{generatorOpening}
 use Rattle.generator.specs.Calls.{addedAll}
 use Rattle.guarantees.specs.Marked.{publishedTriples, Case, reads, closes, refuses, goesOn, losesFirst, stops, CaseHolds, markedCases}
-use Rattle.guarantees.specs.Marked.{MarkedFigures}
+use Rattle.guarantees.specs.Marked.{handBuilt, MarkedFigures}
 use Rattle.guarantees.proofs.Monitoring.{start, pass-iff}
 
 -- Questions 1, 2 and 4, which the result lists have no part in.
@@ -73,8 +73,12 @@ Computed (losesFirst p x xs) =
     × Passes p (x ∷ xs)
     × ((n : ℕ) × (q : Pair) × T (arrives? p n q) × (length (q .lower) ≡ horizon q)
     × (rulings (monitorView (fresh p) q false) (x ∷ xs) ≡ result lost ∷ map (λ _. result alreadyFailed) xs))
-Computed (stops p xs) =
-    T (passes? p) × (generatorOpening p ≡ refusal 15) × Passes p xs × (ranging (addedAll (fresh p) xs) ≡ refusal 13)
+Computed (stops p xs g) =
+    T (passes? p)
+    × (generatorOpening p ≡ refusal 15)
+    × Passes p xs
+    × (viewOf (g .history) ≡ addedAll (fresh p) xs)
+    × (ranging (viewOf (g .history)) ≡ refusal 13)
 
 all-passed : (xs : List ℕ) → Each (λ r. r ≡ result (judged passed)) (map (λ _. result (judged passed)) xs)
 all-passed [] = tt
@@ -83,7 +87,7 @@ all-passed (x ∷ xs) = (refl, all-passed xs)
 pass-conforms : (p : Pair) (xs : List ℕ) → T (passes? p) → Passes p xs → Conforms p xs
 pass-conforms p xs ok pass =
     let ys = asked p ok in
-    let none : Conforms p [] = λ i d u v w. absurd (omega arith) in
+    let none = empty-conforms p in
     pass-iff p p ys ys refl (monitorView (fresh p) p false) [] xs (start p p ys ys refl) (none, none) .1 (rw pass (all-passed xs)) .0
 
 -- A monitor of the pair has the closure that the rounds arrive at for its closed figures.
@@ -113,44 +117,24 @@ holds (goesOn p xs b) (ok, opened, pass, shown) = (opened, pass-conforms p xs ok
 holds (losesFirst p x xs) (ok, pass, (n, q, t, full, told)) =
     let a = arrives-computed p n q t in
     (sym (opening-yes p (asked p ok) (n, q, a)), pass-conforms p (x ∷ xs) ok pass, rw (fresh-closed p q n (asked p ok) a full) told)
-holds (stops p xs) (ok, refused, pass, shown) = (refused, pass-conforms p xs ok pass, shown, λ choice. rw shown)
+holds (stops p xs g) (ok, refused, pass, same, shown) =
+    (refused, pass-conforms p xs ok pass, same, (λ r a. a ∙ shown), λ choice r a. a .answer ∙ ap (λ b. sentFrom b choice) shown)
 
 pub marked-figures : MarkedFigures
-unfolding markedCases publishedTriples passes? ask ⊎-map every every? decLe ℕ-discrete Dec·and left? crossed? equal? same? runs? arrives?
-    crosses? crosses-by? records fields valueAfter named each? digit? numeral? wellFormed? inRange? Dec·not equal-lists? fold table
+unfolding markedCases publishedTriples handBuilt passes? ask ⊎-map every every? decLe ℕ-discrete Dec·and left? crossed? equal? same? runs?
+    arrives? crosses? crosses-by? records fields valueAfter named each? digit? numeral? wellFormed? inRange? Dec·not equal-lists? fold table
     figure newFigure round figuresOf after rulings addedAll judging ranging legalMonitor? legal? verdict? find rejected inside? judged?
     range? range-from decLt sum generatorOpening causal?
 marked-figures =
     let c : T true × T true = (tt, tt) in
-    let closed : Pair = pairOf (1 ∷ 2 ∷ 3 ∷ 4 ∷ 5 ∷ []) (1 ∷ 2 ∷ 3 ∷ 4 ∷ 5 ∷ []) in
-    each-map Computed CaseHolds markedCases holds (
-      c,
-      (
-        c,
-        (
-          c,
-          (
-            c,
-            (
-              c,
-              (
-                c,
-                (
-                  c,
-                  (
-                    c,
-                    (
-                      c,
-                      (
-                        (tt, refl, (4, closed, tt, refl, refl)),
-                        ((tt, refl, refl, refl), ((tt, refl, refl, refl), ((tt, refl, refl, refl), tt))),
-                      ),
-                    ),
-                  ),
-                ),
-              ),
-            ),
-          ),
-        ),
-      ),
+    each-map Computed CaseHolds markedCases holds (c, (c, (c, (c, (c, (c, (c, (c, (c, streams)))))))))
+  where
+    closed : Pair
+    closed = pairOf (1 ∷ 2 ∷ 3 ∷ 4 ∷ 5 ∷ []) (1 ∷ 2 ∷ 3 ∷ 4 ∷ 5 ∷ [])
+
+    -- The last four are about streams.
+    streams : Each Computed (drop 9 markedCases)
+    streams = (
+      (tt, refl, (4, closed, tt, refl, refl)),
+      ((tt, refl, refl, refl, refl), ((tt, refl, refl, refl), ((tt, refl, refl, refl), tt))),
     )

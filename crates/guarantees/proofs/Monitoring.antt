@@ -28,6 +28,9 @@ IsPassed r = r ≡ result (judged passed)
 abbrev pub NotLost : Reply Ruling → Type 0
 NotLost r = ¬ (r ≡ result lost)
 
+abbrev pub IsAnswered : Reply Ruling → Type 0
+IsAnswered a = (r : Ruling) × (a ≡ result r)
+
 -- A monitor that has failed stays so.
 abbrev pub AllFailed : MonitorView → List ℕ → Type 0
 AllFailed w xs = Each (λ r. r ≡ result alreadyFailed) (rulings w xs)
@@ -131,6 +134,18 @@ module _ (p q : Pair) (ys : AllYes (pairQuestions p)) (ys′ : AllYes (pairQuest
   failed-after w ys [] x s es n zs = ⊎-elim (λ e. absurd (n (e, tt))) (λ f. f zs) (passes-or-fails w ys s x)
   failed-after w ys (y ∷ xs) x s es n zs =
       failed-after (afterTick w y) (then ys y) xs x (tick-on w ys s y (es .0)) (es .1) (λ fs. n (es .0, fs)) zs
+
+  -- No tick is refused: it passes, or the monitor has failed for good.
+  pub answered-all : (w : MonitorView) (ys xs : List ℕ) → w ≡ after ys → Each IsAnswered (rulings w xs)
+  unfolding rulings
+  answered-all w ys [] s = tt
+  answered-all w ys (x ∷ xs) s = (
+    (rulingOn (after ys) x, ruling-is w ys s x),
+    ⊎-elim
+        (λ e. answered-all (afterTick w x) (then ys x) xs (tick-on w ys s x e))
+        (λ f. each-map (λ r. r ≡ result alreadyFailed) IsAnswered (rulings (afterTick w x) xs) (λ r e. (alreadyFailed, e)) (f xs))
+        (passes-or-fails w ys s x),
+  )
 
   -- Where every stream that conforms to p conforms to q, nothing is lost.
   pub never-lost : ((zs : List ℕ) → Conforms p zs → Conforms q zs) → (w : MonitorView) (ys xs : List ℕ) → w ≡ after ys → Conforms p ys

@@ -1,23 +1,21 @@
 -- Request P3, and demand 3's last sentence: a generator that was opened is never refused, over any list of calls. Assumes nothing.
-use Rattle.laws.proofs.Base.{ℕ, _-_, _≤_, _≡_, refl, sym, ap, _∙_, subst, List, [], _∷_, _++_, append-assoc, append-nil, _↔_, arith}
+use Rattle.laws.proofs.Base.{ℕ, _-_, _≤_, _≡_, refl, sym, ap, _∙_, subst, List, [], _∷_, _++_, append-assoc, append-nil, arith}
 use mathlib.Core.Logic.{Iff·trans, Iff·symm}
 use Rattle.laws.specs.Tests.{Each}
-use Rattle.curves.specs.Streams.{countLimit}
 use Rattle.curves.specs.Pairs.{Pair, horizon}
 use Rattle.curves.specs.Conformance.{Conforms}
-use Rattle.curves.specs.Ticks.{then, passed}
+use Rattle.curves.specs.Ticks.{then}
 use Rattle.curves.specs.Questions.{Reply, result, refusal}
 use Rattle.curves.proofs.Asked.{no-refusal}
-use Rattle.curves.proofs.Closure.{one-more-tick}
+use Rattle.curves.proofs.Closure.{one-more-tick, causal-takes-no-round}
+use Rattle.curves.proofs.NextTick.{empty-conforms}
 use Rattle.curves.proofs.Verdicts.{range-newest}
 use Rattle.bounds.specs.Bounds.{figureLimit}
-use Rattle.closure.specs.Theorems.{closureOf, room}
+use Rattle.closure.specs.Theorems.{closureOf}
 use Rattle.history.specs.States.{View, viewOf, Legal}
 use Rattle.history.specs.Opening.{fresh, zeroHistory, Begun}
 use Rattle.history.proofs.Histories.{horizon-seen}
-use Rattle.monitor.specs.Monitoring.{MonitorView, judged}
-use Rattle.monitor.specs.Opening.{freshMonitor}
-use Rattle.monitor.specs.Calls.{afterTicks}
+use Rattle.monitor.proofs.Opening.{opening-yes}
 use Rattle.generator.specs.declared.Generator.{Generator}
 use Rattle.generator.specs.declared.OpenedGenerator.{OpenedGenerator}
 use Rattle.generator.specs.Generating.{RangeAnswer, ranging, chosen, sending, sentFrom, GeneratorNext}
@@ -25,15 +23,15 @@ use Rattle.generator.specs.Opening.{generatorOpening}
 use Rattle.generator.specs.Answers.{sendingReply}
 use Rattle.generator.specs.Promises.{GeneratorOpened}
 use Rattle.generator.specs.Calls.{viewAfter, sendings, Call, ticked, ranged, Calls, stateAfter, countsSent}
+use Rattle.generator.proofs.Opening.{opened-from}
 use Rattle.generator.proofs.Said.{range-answer, ranging-bad, ranging-range, count-limited, generator-next}
-use Rattle.guarantees.specs.Exact.{Answers, AllPass}
 use Rattle.guarantees.specs.NeverRefused.{GeneratorOpens, NotRefused, OpenedNeverRefused, SendsAtEveryTick, Reached}
-use Rattle.guarantees.specs.NeverRefused.{NoCountOnlyUnreached, SendsIffExtendable, SendsIffPasses, NeverRefused, PassesIffExtendable}
+use Rattle.guarantees.specs.NeverRefused.{NoCountOnlyUnreached, SendsIffExtendable, SendsIffPasses, NeverRefused}
 use Rattle.guarantees.proofs.Total.{sending-refused, ranging-refused}
 use Rattle.guarantees.proofs.Held.{heldOf, held-fresh, held-legal, opened-positive}
 use Rattle.guarantees.proofs.Generating.{sent-keeps, sent-on, sent-conforms, sends-conforming}
-use Rattle.guarantees.proofs.Lost.{all-pass-iff-extendable, monitor-opens-on-closure, extendable-same, sends-iff-passes-on-closure}
-use Rattle.guarantees.proofs.Opens.{causal, asked, back, own, extendable-iff, opens-on-closure}
+use Rattle.guarantees.proofs.Lost.{extendable-same, sends-where-passes}
+use Rattle.guarantees.proofs.Opens.{causal, asked, extendable-iff, opens-on-closure}
 
 -- ---- from a generator that was opened on p
 module _ (p : Pair) (o : GeneratorOpens p) where
@@ -44,57 +42,58 @@ module _ (p : Pair) (o : GeneratorOpens p) where
       let r = range-newest p (horizon p - 1) ys (omega arith) (one-more-tick p ys h (causal p o) c .0) in
       (range-answer (r .lo) (r .hi), rw s (ranging-range (heldOf p ys) (held-legal p (asked p o) ys) r))
 
-  -- After the stream ys, a state holds its last ticks, and it conforms.
-  pub record Holds (g : Generator) (ys : List ℕ) : Type 0 where
-    pub view : viewOf (g .history) ≡ heldOf p ys
+  -- What is true of a view after the stream ys: it holds the last ticks, and the stream conforms.
+  pub record Holds (v : View) (ys : List ℕ) : Type 0 where
+    pub view : v ≡ heldOf p ys
     pub conforms : Conforms p ys
 
+  unbegun : Holds (fresh p) []
+  unbegun = record { view = held-fresh p; conforms = empty-conforms p }
+
+  -- Its next tick sends a count, after which that is so again.
+  goes-on : (v : View) (ys : List ℕ) → Holds v ys → (choice : ℕ)
+      → (x : ℕ) × (x ≤ figureLimit) × (sending v choice ≡ result x) × Holds (viewAfter (sending v choice) v) (then ys x)
+  goes-on v ys s choice =
+      let (b, l) = shows v ys (s .view) (s .conforms) in
+      let x = chosen b choice in
+      let e : sending v choice ≡ result x = rw l in
+      let legal : Legal v = rw (s .view) (held-legal p (asked p o) ys) in (
+        x,
+        count-limited v legal x (sent-keeps v legal choice x e),
+        e,
+        record {
+          view = sent-on p (asked p o) v ys (s .view) choice x e;
+          conforms = sent-conforms p (asked p o) v ys (s .view) choice x (s .conforms) e;
+        },
+      )
+
   -- From there no call is refused, and so it stays.
-  never : (cs : List Call) (ys : List ℕ) (g : Generator) → Holds g ys → Calls g cs
-      → Each NotRefused cs × Holds (stateAfter g cs) (ys ++ countsSent cs)
+  never : (cs : List Call) (ys : List ℕ) (g : Generator) → Holds (viewOf (g .history)) ys → Calls g cs
+      → Each NotRefused cs × Holds (viewOf (stateAfter g cs .history)) (ys ++ countsSent cs)
   never [] ys g s t = (tt, rw append-nil s)
   never (ranged r ∷ cs) ys g s (a, t) =
       let (b, e) = shows (viewOf (g .history)) ys (s .view) (s .conforms) in
       let (all, s′) = never cs ys g s t in
       (((b, a ∙ e), all), s′)
   never (ticked choice r ∷ cs) ys g s (a, t) =
-      let v = viewOf (g .history) in
-      let (b, l) = shows v ys (s .view) (s .conforms) in
-      let x = chosen b choice in
-      let e : sending v choice ≡ result x = rw l in
+      let (x, small, e, next) = goes-on (viewOf (g .history)) ys s choice in
       let said : sendingReply (r .sending) ≡ result x = a .answer ∙ e in
-      let next : Holds (r .next) (then ys x) =
-      record {
-        view = generator-next g choice r a ∙ sent-on p (asked p o) v ys (s .view) choice x e;
-        conforms = sent-conforms p (asked p o) v ys (s .view) choice x (s .conforms) e;
-      } in
-      let (all, s′) = never cs (then ys x) (r .next) next t in
+      let (all, s′) = never cs (then ys x) (r .next) (rw (generator-next g choice r a) next) t in
       (((x, said), all), rw (said, ← append-assoc ys (x ∷ []) (countsSent cs)) s′)
 
   pub never-from : (r : OpenedGenerator) → GeneratorOpened p r → (cs : List Call) → Calls (r .state) cs
-      → Each NotRefused cs × Holds (stateAfter (r .state) cs) (countsSent cs)
+      → Each NotRefused cs × Holds (viewOf (stateAfter (r .state) cs .history)) (countsSent cs)
   never-from r a cs t =
-      let begun : Holds (r .state) [] =
-      record {
-        view = subst (λ x. Begun x p (r .state .history)) o (a .history) ∙ held-fresh p;
-        conforms = λ i d u v w. absurd (omega arith);
-      } in
-      never cs [] (r .state) begun t
+      let begun : viewOf (r .state .history) ≡ fresh p = subst (λ x. Begun x p (r .state .history)) o (a .history) in
+      never cs [] (r .state) (rw begun unbegun) t
 
-  -- By views, each tick sends a count that keeps the window of one tick.
-  sends-from : (v : View) (ys choices : List ℕ) → v ≡ heldOf p ys → Conforms p ys
+  sends-from : (v : View) (ys choices : List ℕ) → Holds v ys
       → Each (λ a. (x : ℕ) × (x ≤ figureLimit) × (a ≡ result x)) (sendings v choices)
   unfolding sendings
-  sends-from v ys [] s c = tt
-  sends-from v ys (choice ∷ choices) s c =
-      let (b, l) = shows v ys s c in
-      let x = chosen b choice in
-      let e : sending v choice ≡ result x = rw l in
-      let legal : Legal v = rw s (held-legal p (asked p o) ys) in (
-        (x, count-limited v legal x (sent-keeps v legal choice x e), e),
-        sends-from (viewAfter (sending v choice) v) (then ys x) choices (sent-on p (asked p o) v ys s choice x e)
-            (sent-conforms p (asked p o) v ys s choice x c e),
-      )
+  sends-from v ys [] s = tt
+  sends-from v ys (choice ∷ choices) s =
+      let (x, small, e, next) = goes-on v ys s choice in
+      ((x, small, e), sends-from (viewAfter (sending v choice) v) (then ys x) choices next)
 
 pub opened-never-refused : OpenedNeverRefused
 opened-never-refused p r a w cs t =
@@ -103,7 +102,7 @@ opened-never-refused p r a w cs t =
     (all, extendable-iff p o (countsSent cs) .0 (s .conforms))
 
 pub sends-at-every-tick : SendsAtEveryTick
-sends-at-every-tick p o choices = sends-from p o (fresh p) [] choices (held-fresh p) (λ i d u v w. absurd (omega arith))
+sends-at-every-tick p o choices = sends-from p o (fresh p) [] choices (unbegun p o)
 
 -- ---- 13
 -- A refused opening's state is refused with 12, and stays.
@@ -149,22 +148,13 @@ no-count-only-unreached g = (
 pub sends-iff-extendable : SendsIffExtendable
 sends-iff-extendable p o xs = Iff·trans (Iff·symm (extendable-iff p o xs)) (sends-conforming p (asked p o) xs)
 
-abbrev Sends : Pair → Type 0
-Sends q =
-    (xs : List ℕ) → AllPass q xs → (x : ℕ)
-    → let w : MonitorView = afterTicks (freshMonitor q) xs in
-    ((choice : ℕ) × (choice ≤ countLimit) × (sending (w .view) choice ≡ result x)) ↔ Answers w x (judged passed)
-
 pub sends-iff-passes : SendsIffPasses
-sends-iff-passes p o = subst Sends (own p o) (sends-iff-passes-on-closure p room (back p o .0))
+sends-iff-passes p o =
+    let opens = sym (opening-yes p (opened-from p o .0) (0, p, causal-takes-no-round p (causal p o))) in
+    sends-where-passes p opens (extendable-iff p o)
 
 -- ---- on a closure
 pub never-refused : NeverRefused
 never-refused p found g o a cs t =
     let (all, e) = opened-never-refused (closureOf p found) o a (opens-on-closure p found g o a) cs t in
     (all, extendable-same p found g (countsSent cs) .1 e)
-
-pub passes-iff-extendable : PassesIffExtendable
-passes-iff-extendable p found g xs =
-    Iff·trans (all-pass-iff-extendable (closureOf p found) (monitor-opens-on-closure p found g) xs)
-    (Iff·symm (extendable-same p found g xs))

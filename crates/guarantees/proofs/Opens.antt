@@ -10,48 +10,48 @@ use Rattle.curves.proofs.Figures.{full-same}
 use Rattle.curves.proofs.Closure.{causal-takes-no-round, causal-iff-no-round, closure-streams}
 use Rattle.bounds.specs.Bounds.{pairQuestions}
 use Rattle.bounds.proofs.Said.{asking-yes}
-use Rattle.closure.specs.Theorems.{PassesFour, GivesClosure, closureOf, room, MetBySome}
+use Rattle.closure.specs.Theorems.{PassesFour, GivesClosure, closureOf, room, AllMet}
 use Rattle.closure.proofs.Said.{closed-is, gives-passes}
 use Rattle.closure.proofs.Room.{four-yes, own-yes, room-passes}
 use Rattle.closure.proofs.Given.{arrived, given-horizon, given-even, refused-iff-no-stream, else-closed}
 use Rattle.closure.proofs.Promised.{figures-met, closure-passes, given-is-causal, conforms-iff-extendable, causal-iff-given-back}
 use Rattle.history.specs.Opening.{opening}
 use Rattle.generator.proofs.Opening.{opening-yes, opening-fifteenth, opened-from}
-use Rattle.guarantees.specs.NeverRefused.{GeneratorOpens, GivenBack, OpensIffGivenBack, FifteenIffNotGivenBack, OpensIffAllMet}
-use Rattle.guarantees.specs.NeverRefused.{AllMet, OpensOnClosure}
+use Rattle.guarantees.specs.NeverRefused.{GeneratorOpens, AlreadyClosed, OpensIffAlreadyClosed, FifteenIffNotClosed, OpensIffAllMet}
+use Rattle.guarantees.specs.NeverRefused.{OpensOnClosure}
 
 -- ---- by closing
-given-back : (p found : Pair) → PassesFour p found → Causal p → GivenBack p found
-given-back p found ok c = closed-is p found 0 p ok (causal-takes-no-round p c)
+closed-already : (p found : Pair) → PassesFour p found → Causal p → AlreadyClosed p found
+closed-already p found ok c = closed-is p found 0 p ok (causal-takes-no-round p c)
 
-back-causal : (p found : Pair) → GivenBack p found → Causal p
-back-causal p found e =
+already-causal : (p found : Pair) → AlreadyClosed p found → Causal p
+already-causal p found e =
     let g : GivesClosure p found = ap (λ a. a .number) e in
     causal-iff-no-round p (closureOf p found) _ (arrived p found g) .1 (ap (λ a. a .rounds) e)
 
-pub opens-iff-given-back : OpensIffGivenBack
-opens-iff-given-back p found wide = (
-  (λ o. let (ys, c) = opened-from p o in given-back p found (four-yes p found ys wide) c),
+pub opens-iff-already-closed : OpensIffAlreadyClosed
+opens-iff-already-closed p found wide = (
+  (λ o. let (ys, c) = opened-from p o in closed-already p found (four-yes p found ys wide) c),
   λ e.
       let ok : PassesFour p found = gives-passes p found (ap (λ a. a .number) e) .0 in
-      sym (opening-yes p (own-yes p found ok) (back-causal p found e)),
+      sym (opening-yes p (own-yes p found ok) (already-causal p found e)),
 )
 
-pub fifteen-iff-not-given-back : FifteenIffNotGivenBack
-fifteen-iff-not-given-back p found ok = (
-  (λ e k. no-refusal tt 15 (sym (opens-iff-given-back p found (ok .1 .1 .0) .1 k) ∙ e)),
-  λ n. sym (opening-fifteenth p (own-yes p found ok) (λ c. n (given-back p found ok c))),
+pub fifteen-iff-not-closed : FifteenIffNotClosed
+fifteen-iff-not-closed p found ok = (
+  (λ e k. no-refusal tt 15 (sym (opens-iff-already-closed p found (ok .1 .1 .0) .1 k) ∙ e)),
+  λ n. sym (opening-fifteenth p (own-yes p found ok) (λ c. n (closed-already p found ok c))),
 )
 
 -- ---- by streams
 -- Where every figure is met, there is a stream, so a closure; and the streams that meet its figures and the pair's conform to both.
-met-gives : (p : Pair) → AllYes (pairQuestions p) → AllMet p → GivesClosure p room
+met-gives : (p : Pair) → AllYes (pairQuestions p) → AllMet p p → GivesClosure p room
 met-gives p ys met =
     let ok = room-passes p ys in
     let (s, c, m) = met 1 (le-refl 1) (ys .0 .0) .0 in
     ⊎-elim (λ e. absurd (refused-iff-no-stream p room ok .0 e s c)) (λ g. g) (else-closed p room ok)
 
-met-equal : (p : Pair) (g : GivesClosure p room) → AllMet p → Equal (closureOf p room) p
+met-equal : (p : Pair) (g : GivesClosure p room) → AllMet p p → Equal (closureOf p room) p
 met-equal p g met =
     let is = given-horizon p room g in
     record { horizons = is; uppers = λ d u v. both d u (omega arith) .0; lowers = λ d u v. both d u (omega arith) .1 }
@@ -90,8 +90,7 @@ module _ (p : Pair) (o : GeneratorOpens p) where
 
 pub opens-iff-all-met : OpensIffAllMet
 opens-iff-all-met p ys = (
-  (λ o. subst (λ q. (d : ℕ) → 1 ≤ d → d ≤ horizon p → MetBySome p d (upperAt q d) × MetBySome p d (lowerAt q d)) (own p o)
-      (figures-met p room (back p o .0))),
+  (λ o. subst (AllMet p) (own p o) (figures-met p room (back p o .0))),
   λ met.
       let g = met-gives p ys met in
       sym (opening-yes p ys (causal-iff-given-back p room (room-passes p ys) .1 (g, met-equal p g met))),

@@ -1,21 +1,20 @@
 -- Request P2: what the monitor's opening and its answers to ticks say of streams, whatever it computes them by.
-use Prim.Native.Nat.{ℕ, _≤_, _<_}
+use Prim.Native.Nat.{ℕ, _<_}
 use mathlib.Core.Path.{_≡_}
 use mathlib.Core.List.{List}
 use mathlib.Core.Logic.{_↔_}
 use lib.ListN.{length}
 use Rattle.laws.specs.Tests.{Each}
-use Rattle.curves.specs.Streams.{countLimit, Stream}
+use Rattle.curves.specs.Streams.{Stream}
 use Rattle.curves.specs.Pairs.{Pair, horizon}
 use Rattle.curves.specs.Conformance.{Conforms, Conforms∞, Extendable}
 use Rattle.curves.specs.Ticks.{then, passed}
 use Rattle.curves.specs.Questions.{AllYes, result, refusal}
 use Rattle.bounds.specs.Bounds.{pairQuestions}
 use Rattle.closure.specs.Theorems.{GivesClosure, closureOf}
-use Rattle.monitor.specs.Monitoring.{MonitorView, judged, lost}
+use Rattle.monitor.specs.Monitoring.{Ruling, judged, lost}
 use Rattle.monitor.specs.Opening.{monitorOpening, freshMonitor}
 use Rattle.monitor.specs.Calls.{afterTicks, rulings}
-use Rattle.generator.specs.Generating.{sending}
 use Rattle.guarantees.specs.Exact.{Answers, JudgedOutside, Opens, AllPass}
 
 -- Opening is refused with 5 exactly when no unbounded stream conforms, for lists that pass questions 1, 2 and 4.
@@ -46,6 +45,10 @@ OutsideIffNotConforming =
     (p : Pair) → Opens p → (xs : List ℕ) → AllPass p xs → (x : ℕ)
     → JudgedOutside (afterTicks (freshMonitor p) xs) x ↔ (¬ Conforms p (then xs x))
 
+-- No tick of an opened monitor is refused, whatever it is fed.
+abbrev pub MonitorNeverRefused : Type 0
+MonitorNeverRefused = (p : Pair) → Opens p → (xs : List ℕ) → Each (λ a. (r : Ruling) × (a ≡ result r)) (rulings (freshMonitor p) xs)
+
 -- 'Lost' comes while the stream, the lost tick included, has fewer ticks than the horizon, or not at all.
 abbrev pub LostBeforeHorizon : Type 0
 LostBeforeHorizon =
@@ -61,9 +64,7 @@ NeverLostOnClosure =
     (p found : Pair) → GivesClosure p found → (xs : List ℕ)
     → Each (λ r. ¬ (r ≡ result lost)) (rulings (freshMonitor (closureOf p found)) xs)
 
--- So there the generator can send exactly the counts that the monitor passes, while all have passed.
-abbrev pub SendsIffPassesOnClosure : Type 0
-SendsIffPassesOnClosure =
-    (p found : Pair) → GivesClosure p found → (xs : List ℕ) → AllPass (closureOf p found) xs → (x : ℕ)
-    → let w : MonitorView = afterTicks (freshMonitor (closureOf p found)) xs in
-    ((choice : ℕ) × (choice ≤ countLimit) × (sending (w .view) choice ≡ result x)) ↔ Answers w x (judged passed)
+-- So there it passes exactly the extendable streams, of the closure and of the pair.
+abbrev pub PassesIffExtendable : Type 0
+PassesIffExtendable =
+    (p found : Pair) → GivesClosure p found → (xs : List ℕ) → AllPass (closureOf p found) xs ↔ Extendable p xs

@@ -6,13 +6,13 @@ use mathlib.Core.List.{List, map}
 use mathlib.Core.Logic.{_↔_}
 use Rattle.laws.specs.Tests.{Each}
 use Rattle.curves.specs.Streams.{countLimit}
-use Rattle.curves.specs.Pairs.{Pair, horizon, upperAt, lowerAt}
+use Rattle.curves.specs.Pairs.{Pair, horizon}
 use Rattle.curves.specs.Conformance.{Extendable}
 use Rattle.curves.specs.Ticks.{passed}
 use Rattle.curves.specs.Questions.{AllYes, result, refusal}
 use Rattle.bounds.specs.Bounds.{figureLimit, pairQuestions, RoomFor}
 use Rattle.closure.specs.Closing.{givenClosing, closing}
-use Rattle.closure.specs.Theorems.{PassesFour, GivesClosure, closureOf, MetBySome}
+use Rattle.closure.specs.Theorems.{PassesFour, GivesClosure, closureOf, AllMet}
 use Rattle.history.specs.States.{viewOf}
 use Rattle.history.specs.Opening.{fresh}
 use Rattle.monitor.specs.Monitoring.{MonitorView, judged}
@@ -31,23 +31,21 @@ use Rattle.guarantees.specs.Exact.{Answers, AllPass}
 abbrev pub GeneratorOpens : Pair → Type 0
 GeneratorOpens p = generatorOpening p ≡ result tt
 
--- Exactly on the pairs that closing gives back with no round, whatever lists with room for them it is lent.
-abbrev pub GivenBack : Pair → Pair → Type 0
-GivenBack p found = closing p found ≡ givenClosing 0 p found
+-- Closing the pair gives it back with no round.
+abbrev pub AlreadyClosed : Pair → Pair → Type 0
+AlreadyClosed p found = closing p found ≡ givenClosing 0 p found
 
-abbrev pub OpensIffGivenBack : Type 0
-OpensIffGivenBack = (p found : Pair) → RoomFor (horizon p) found → GeneratorOpens p ↔ GivenBack p found
+-- It opens exactly there, whatever lists with room for the closure are lent.
+abbrev pub OpensIffAlreadyClosed : Type 0
+OpensIffAlreadyClosed = (p found : Pair) → RoomFor (horizon p) found → GeneratorOpens p ↔ AlreadyClosed p found
 
--- Of lists that pass questions 1, 2 and 4, it is refused for all others with 15.
-abbrev pub FifteenIffNotGivenBack : Type 0
-FifteenIffNotGivenBack = (p found : Pair) → PassesFour p found → (generatorOpening p ≡ refusal 15) ↔ (¬ GivenBack p found)
+-- For lists that pass questions 1 to 4 it is refused with 15 exactly where closing gives another pair or none, or takes a round.
+abbrev pub FifteenIffNotClosed : Type 0
+FifteenIffNotClosed = (p found : Pair) → PassesFour p found → (generatorOpening p ≡ refusal 15) ↔ (¬ AlreadyClosed p found)
 
--- By streams alone: exactly on the pairs each of whose figures is met by an unbounded stream that conforms.
-abbrev pub AllMet : Pair → Type 0
-AllMet p = (d : ℕ) → 1 ≤ d → d ≤ horizon p → MetBySome p d (upperAt p d) × MetBySome p d (lowerAt p d)
-
+-- By streams alone: it opens exactly on the pairs each of whose figures is met by an unbounded stream that conforms.
 abbrev pub OpensIffAllMet : Type 0
-OpensIffAllMet = (p : Pair) → AllYes (pairQuestions p) → GeneratorOpens p ↔ AllMet p
+OpensIffAllMet = (p : Pair) → AllYes (pairQuestions p) → GeneratorOpens p ↔ AllMet p p
 
 -- ---- a generator that was opened
 abbrev pub WasOpened : OpenedGenerator → Type 0
@@ -63,7 +61,7 @@ OpenedNeverRefused =
     (p : Pair) (o : OpenedGenerator) → GeneratorOpened p o → WasOpened o → (cs : List Call) → Calls (o .state) cs
     → Each NotRefused cs × Extendable p (countsSent cs)
 
--- By views: every tick of a list of choices sends a count, of at most 16,776,960. So no entry of a script is a refusal.
+-- The same of a list of choices, told of views: every tick sends a count, of at most 16,776,960. So no entry of a script is a refusal.
 abbrev pub SendsAtEveryTick : Type 0
 SendsAtEveryTick =
     (p : Pair) → GeneratorOpens p → (choices : List ℕ)
@@ -91,7 +89,7 @@ SendsIffExtendable =
     (p : Pair) → GeneratorOpens p → (xs : List ℕ)
     → Extendable p xs ↔ ((choices : List ℕ) × Each (λ c. c ≤ countLimit) choices × (sendings (fresh p) choices ≡ map result xs))
 
--- Beside a monitor on the same pair that has passed every tick, it can send exactly the counts that the monitor passes next.
+-- On the history of a monitor of the same pair that has passed every tick, it can send exactly the counts that the monitor passes next.
 abbrev pub SendsIffPasses : Type 0
 SendsIffPasses =
     (p : Pair) → GeneratorOpens p → (xs : List ℕ) → AllPass p xs → (x : ℕ)
@@ -110,8 +108,3 @@ NeverRefused =
     (p found : Pair) → GivesClosure p found → (o : OpenedGenerator) → GeneratorOpened (closureOf p found) o
     → (cs : List Call) → Calls (o .state) cs
     → Each NotRefused cs × Extendable p (countsSent cs)
-
--- A monitor on the closure passes exactly the extendable streams.
-abbrev pub PassesIffExtendable : Type 0
-PassesIffExtendable =
-    (p found : Pair) → GivesClosure p found → (xs : List ℕ) → AllPass (closureOf p found) xs ↔ Extendable p xs
