@@ -1,6 +1,5 @@
 //! Streams with answers worked out beforehand, and choices.
 
-use crate::streams::{conforms, range};
 use crate::subject::{Subject, LIMIT, LONGEST_HORIZON, LOST};
 
 type Figures = &'static [u32];
@@ -101,7 +100,7 @@ fn check_judging(subject: &dyn Subject, known: &Judging) -> Result<(), String> {
 }
 
 /// What an opening gives back, and the script as it is where that is a refusal.
-fn check_opening(name: &str, number: u32, open: impl Fn(&mut [u32]) -> u32) -> Result<(), String> {
+fn check_opened_with(name: &str, number: u32, open: impl Fn(&mut [u32]) -> u32) -> Result<(), String> {
     let mut script = [1, 2];
     let came = open(&mut script);
     expect(name, &[number], &[came])?;
@@ -111,11 +110,11 @@ fn check_opening(name: &str, number: u32, open: impl Fn(&mut [u32]) -> u32) -> R
     expect(name, &[1, 2], &script)
 }
 
-fn check_openings(subject: &dyn Subject) -> Result<(), String> {
+fn check_opened_withs(subject: &dyn Subject) -> Result<(), String> {
     for (upper, lower, judge, generate) in OPENINGS {
         let name = format!("1, 2\n  upper {upper:?}\n  lower {lower:?}");
-        check_opening(&format!("judge {name}"), *judge, |script| subject.judge(upper, lower, script))?;
-        check_opening(&format!("generate {name}"), *generate, |script| {
+        check_opened_with(&format!("judge {name}"), *judge, |script| subject.judge(upper, lower, script))?;
+        check_opened_with(&format!("generate {name}"), *generate, |script| {
             subject.generate(upper, lower, script)
         })?;
     }
@@ -134,16 +133,16 @@ fn check_one_a_tick(subject: &dyn Subject) -> Result<(), String> {
 fn check_each_figure(subject: &dyn Subject) -> Result<(), String> {
     let ticks: Vec<u32> = (1..=LONGEST_HORIZON as u32).collect();
     let name = "generate on one a tick, horizon 256";
-    check_opening(name, 0, |script| subject.generate(&ticks, &ticks, script))?;
+    check_opened_with(name, 0, |script| subject.generate(&ticks, &ticks, script))?;
     for window in 1..=LONGEST_HORIZON {
         for figure in [window as u32 - 1, window as u32 + 1] {
             let mut off = ticks.clone();
             off[window - 1] = figure;
             let place = format!("{figure} for window {window}");
-            check_opening(&format!("{name}, ceiling {place}"), 15, |script| {
+            check_opened_with(&format!("{name}, ceiling {place}"), 15, |script| {
                 subject.generate(&off, &ticks, script)
             })?;
-            check_opening(&format!("{name}, least {place}"), 15, |script| {
+            check_opened_with(&format!("{name}, least {place}"), 15, |script| {
                 subject.generate(&ticks, &off, script)
             })?;
         }
@@ -151,30 +150,22 @@ fn check_each_figure(subject: &dyn Subject) -> Result<(), String> {
     Ok(())
 }
 
-/// On the published pair the start 0, 2, 1, 0, 2, 0 conforms, and no count can follow. No generator opens there, so only the reference
-/// tells.
-fn check_no_count() -> Result<(), String> {
-    let (upper, lower, start) = (PUBLISHED.upper, PUBLISHED.lower, [0, 2, 1, 0, 2, 0]);
-    match (conforms(upper, lower, &start), range(upper, lower, &start)) {
-        (true, None) => Ok(()),
-        (conforms, range) => Err(format!(
-            "{start:?} on the published pair\nconforms: {conforms}, lo and hi: {range:?}"
-        )),
-    }
-}
-
 /// On a closed pair, after 2, 1 the counts 0 to 2 can follow, after 2, 1, 0, 2 the counts 0 and 1: the next choice of 2 shows it.
 fn check_range(subject: &dyn Subject) -> Result<(), String> {
     let (upper, lower) = ([2, 3, 5, 5], [0, 0, 1, 3]);
     for (choice, count) in [(0, 0), (1, 1), (2, 2), (3, 0), (u32::MAX, 0)] {
         let mut choices = [2, 1, choice];
-        subject.generate(&upper, &lower, &mut choices);
-        expect(&format!("generate with 2, 1, {choice}"), &[2, 1, count], &choices)?;
+        let number = subject.generate(&upper, &lower, &mut choices);
+        let name = format!("generate with 2, 1, {choice}");
+        expect(&name, &[0], &[number])?;
+        expect(&name, &[2, 1, count], &choices)?;
     }
     for (choice, count) in [(0, 0), (1, 1), (2, 0), (3, 1)] {
         let mut choices = [2, 1, 0, 2, choice];
-        subject.generate(&upper, &lower, &mut choices);
-        expect(&format!("generate with 2, 1, 0, 2, {choice}"), &[2, 1, 0, 2, count], &choices)?;
+        let number = subject.generate(&upper, &lower, &mut choices);
+        let name = format!("generate with 2, 1, 0, 2, {choice}");
+        expect(&name, &[0], &[number])?;
+        expect(&name, &[2, 1, 0, 2, count], &choices)?;
     }
     Ok(())
 }
@@ -183,8 +174,7 @@ pub fn check(subject: &dyn Subject) -> Result<(), String> {
     for known in JUDGINGS {
         check_judging(subject, known)?;
     }
-    check_no_count()?;
-    check_openings(subject)?;
+    check_opened_withs(subject)?;
     check_one_a_tick(subject)?;
     check_each_figure(subject)?;
     check_range(subject)

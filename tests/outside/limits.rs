@@ -3,7 +3,7 @@
 
 use crate::pairs::{self, Pair};
 use crate::reference::Reference;
-use crate::states::{digest, drawn, Judged, Sent, State, CASES};
+use crate::states::{self, digest, drawn, Judged, Sent, State, CASES};
 use crate::streams::verdict;
 use crate::subject::{Subject, ALREADY_FAILED, LIMIT, LONGEST_HORIZON, LOST, PASSED, REFUSED};
 use crate::tally::{Tally, BOTH, BUILT, BUILT_LOOSER, BUILT_REJECTED, BUILT_SENT, BUILT_TWELVE};
@@ -65,7 +65,8 @@ fn lines() -> Vec<String> {
         text_line(b"window,least,most\r\n2,0,2\r\n255,256,65535\r\n"),
         rounds_line(&nine.upper, &nine.lower),
     ];
-    lists.chain(longest).chain((1..=CASES).map(state_line)).collect()
+    let stuck = format!("stuck {}", states::stuck().sent_line(0));
+    lists.chain(longest).chain([stuck]).chain((1..=CASES).map(state_line)).collect()
 }
 
 /// Whether the tick is outside both ways, so that the order of comparing matters: in one window, or in different ones. In a script it

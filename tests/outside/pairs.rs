@@ -62,7 +62,7 @@ pub fn closure(pair: &Pair) -> Option<Pair> {
 }
 
 /// Whether closing gives the pair back.
-pub fn is_own_closure(pair: &Pair) -> bool {
+pub fn closes_to_itself(pair: &Pair) -> bool {
     closure(pair).is_some_and(|closed| closed == *pair)
 }
 

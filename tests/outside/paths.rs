@@ -74,10 +74,9 @@ pub fn rates_conflict(upper: &[u32], lower: &[u32]) -> bool {
     (1..=lower.len()).any(|a| (1..=upper.len()).any(|b| asks_more(a, b)))
 }
 
-/// Whether no step of a walk costs more than some two that end where it does, and no least is above its ceiling. With d = a + b that is
-/// a chain: L a + L b <= L d <= L a + U b <= U d <= U a + U b. Where it holds, two steps of a walk can be made one without a greater cost,
-/// so each figure is that of its cheapest walk.
-pub fn is_own_closure(upper: &[u32], lower: &[u32]) -> bool {
+/// Whether a pair is its own closure: no step of a walk costs more than some two that end where it does, and no least is above its ceiling.
+/// With d = a + b that is a chain: L a + L b <= L d <= L a + U b <= U d <= U a + U b. Where it holds, a round finds nothing better.
+pub fn keeps_parts(upper: &[u32], lower: &[u32]) -> bool {
     let horizon = upper.len();
     let (up, low) = (|d: usize| u64::from(upper[d - 1]), |d: usize| u64::from(lower[d - 1]));
     let in_order = |a: usize, b: usize| {

@@ -120,15 +120,16 @@ fn check_met(pair: &Pair, closed: &Pair, extensions: &Extensions) -> Result<(), 
 }
 
 /// A generator opens on the pair exactly where there is an unbounded stream and each figure is met; else it is 15 and the choices stay.
-fn check_opening(subject: &dyn Subject, pair: &Pair, extensions: &Extensions, tally: &mut Tally) -> Result<(), String> {
+fn check_opens_where_met(subject: &dyn Subject, pair: &Pair, extensions: &Extensions, tally: &mut Tally) -> Result<(), String> {
     let own = extensions.any_stream() && (1..=pair.horizon()).all(|window| is_met(pair, extensions, window));
     let choices = [3, 1, 4, 1, 5];
     let mut sent = choices;
     let number = subject.generate(&pair.upper, &pair.lower, &mut sent);
     tally.note(OPENED, number);
-    let as_due = match own {
-        true => number == 0 && extensions.is_extendable(&sent),
-        false => number == 15 && sent == choices,
+    let as_due = if own {
+        number == 0 && extensions.is_extendable(&sent)
+    } else {
+        number == 15 && sent == choices
     };
     if as_due {
         return Ok(());
@@ -205,7 +206,7 @@ pub fn compare(subject: &dyn Subject, rng: &mut Rng, tally: &mut Tally) -> Resul
         ));
     }
     lost::check(subject, rng, &pair, &extensions, tally)?;
-    check_opening(subject, &pair, &extensions, tally)?;
+    check_opens_where_met(subject, &pair, &extensions, tally)?;
     let Some(closed) = closed else { return Ok(()) };
     check_pasts(&pair, &closed, &extensions)?;
     check_starts(&pair, &closed, &extensions, &mut Vec::new(), tally)?;
@@ -243,7 +244,7 @@ fn same_streams(one: &Extensions, other: &Extensions) -> bool {
 fn compare_two(subject: &dyn Subject, rng: &mut Rng, pair: &Pair, closed: &Pair, tally: &mut Tally) -> Result<(), String> {
     let other = other_pair(rng, closed);
     let (extensions, other_extensions) = (Extensions::new(pair), Extensions::new(&other));
-    check_opening(subject, &other, &other_extensions, tally)?;
+    check_opens_where_met(subject, &other, &other_extensions, tally)?;
     let Some(other_closed) = closure(subject, &other)? else {
         return Ok(());
     };

@@ -23,7 +23,7 @@ fn shown(pair: &Pair) -> String {
 }
 
 /// A generator opens exactly on the pairs that closing gives back after no round.
-fn check_opening(subject: &dyn Subject, pair: &Pair, opens: bool) -> Result<(), String> {
+fn check_given_back(subject: &dyn Subject, pair: &Pair, opens: bool) -> Result<(), String> {
     let mut closed = Pair::new(&vec![u32::MAX; pair.horizon()], &vec![u32::MAX; pair.horizon()]);
     let answer = subject.close(&pair.upper, &pair.lower, &mut closed.upper, &mut closed.lower);
     if (answer == 0 && closed == *pair) == opens {
@@ -38,7 +38,7 @@ fn check_opening(subject: &dyn Subject, pair: &Pair, opens: bool) -> Result<(), 
 /// Whether a pair is its own closure, without rounds: by each window and its parts, and by shortest paths. A difference here is inside
 /// the reference.
 fn check_own_closure(pair: &Pair, own: bool) -> Result<(), String> {
-    let by_parts = paths::is_own_closure(&pair.upper, &pair.lower) == own;
+    let by_parts = paths::keeps_parts(&pair.upper, &pair.lower) == own;
     let found = |(upper, lower)| pair.upper == upper && pair.lower == lower;
     if by_parts && (pair.horizon() > 12 || paths::close(&pair.upper, &pair.lower).is_some_and(found) == own) {
         return Ok(());
@@ -120,9 +120,9 @@ fn note_not_own(pair: &Pair, tally: &mut Tally) {
 }
 
 /// Of the windows that both lists have.
-fn is_own_closure(pair: &Pair) -> bool {
+fn common_parts_kept(pair: &Pair) -> bool {
     let windows = pair.upper.len().min(pair.lower.len());
-    paths::is_own_closure(&pair.upper[..windows], &pair.lower[..windows])
+    paths::keeps_parts(&pair.upper[..windows], &pair.lower[..windows])
 }
 
 /// What is true of a pair that passed the questions 1, 2 and 4, and was opened on or refused with 15.
@@ -131,13 +131,13 @@ fn check_asked(subject: &dyn Subject, pair: &Pair, number: u32, tally: &mut Tall
         tally.note(AT_LIMIT, number);
     }
     check_own_closure(pair, number == 0)?;
-    check_opening(subject, pair, number == 0)
+    check_given_back(subject, pair, number == 0)
 }
 
 pub fn compare(subject: &dyn Subject, rng: &mut Rng, tally: &mut Tally) -> Result<(), String> {
     let (mut pair, script) = for_generator(rng);
     spoil_sometimes(rng, &mut pair);
-    note_faults(&pair, (15, !is_own_closure(&pair)), tally);
+    note_faults(&pair, (15, !common_parts_kept(&pair)), tally);
     let (number, list) = check(subject, "generate", generate, &pair, &script)?;
     tally.note(GENERATOR, number);
     match number {

@@ -79,6 +79,20 @@ pub fn drawn(case: u64) -> (State, u32) {
     (state, draw_count(case, 2, 12, 4))
 }
 
+/// The published pair as it is read, after 0, 2, 1, 0, 2, 0. No generator opens on it, and no count can follow.
+pub fn stuck() -> State {
+    let padded = |numbers: &[u32]| [numbers, &[0; LONGEST_HORIZON][numbers.len()..]].concat();
+    let none = padded(&[]);
+    State {
+        horizon: 5,
+        held: 4,
+        failed: false,
+        given: Pair::new(&padded(&[3, 6, 3, 12, 9]), &padded(&[0, 0, 0, 0, 5])),
+        closed: Pair::new(&none, &none),
+        ticks: padded(&[1, 0, 2, 0]),
+    }
+}
+
 /// What a monitor's tick comes to.
 #[derive(PartialEq)]
 pub struct Judged {
@@ -204,7 +218,7 @@ impl State {
             let number = answer - REFUSED;
             return format!("{number} 0 {number} 0 {history}");
         }
-        let (lo, hi) = self.range().unwrap_or_default();
+        let (lo, hi) = self.range().expect("a count that is sent lies in a range");
         format!("{lo} {hi} 0 {answer} {history}")
     }
 }

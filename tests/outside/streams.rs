@@ -1,6 +1,6 @@
 //! Conformance, the monitor and the generator, from the whole stream each time: every window is summed anew.
 
-use crate::pairs::{closure, is_own_closure, Pair};
+use crate::pairs::{closes_to_itself, closure, Pair};
 use crate::rounds::opening;
 use crate::subject::{ALREADY_FAILED, LOST, NO_COUNT, PASSED, TOO_FEW, TOO_MANY};
 
@@ -113,7 +113,7 @@ pub fn generate_into(upper: &[u32], lower: &[u32], script: &mut [u32]) -> u32 {
     if number != 0 {
         return number;
     }
-    if !is_own_closure(&Pair::new(upper, lower)) {
+    if !closes_to_itself(&Pair::new(upper, lower)) {
         return 15;
     }
     let list = sent(upper, lower, script);

@@ -18,11 +18,33 @@ const FIGURE_LIMIT: u32 = 16_776_960;
 const LARGEST: usize = 18_446_744_073_709_551_615;
 
 pub(crate) fn try_all() {
+    try_stuck();
     let mut case = 1;
     while case <= CASES {
         try_state(case);
         case += 1;
     }
+}
+
+// A generator on document 01's published pair as it is read, which no opening hands out, after 0, 2, 1, 0, 2, 0: no count can follow.
+fn try_stuck() {
+    let start = History::open(&[3, 6, 3, 12, 9], &[0, 0, 0, 0, 5]);
+    let opened = start.history;
+    let upper = opened.upper;
+    let lower = opened.lower;
+    let mut ticks = opened.ticks;
+    ticks[0] = 1;
+    ticks[2] = 2;
+    let history = History {
+        horizon: 5,
+        upper,
+        lower,
+        held: 4,
+        ticks,
+    };
+    io::write_all(STDOUT_FILENO, b"stuck");
+    try_generator(Generator { history }, 0);
+    io::write_all(STDOUT_FILENO, b"\n");
 }
 
 fn try_state(case: u64) {
