@@ -93,7 +93,7 @@ uint32_t calgedze_judge(const uint32_t *upper, size_t upper_length, const uint32
 /*
  * Opens a generator on the pair of `upper` and `lower` and gives it the choices of `script`. Gives back 0; or 1, 2 or 4, as
  * calgedze_close has them; or
- *  15  the pair is not its own closure, or has none: close it first, and open on the result
+ *  15  closing would change the pair, or finds no closure: close it first, and open on the result
  * Where that is not 0, there is no tick and the script stays as it is.
  */
 uint32_t calgedze_generate(const uint32_t *upper, size_t upper_length, const uint32_t *lower, size_t lower_length, uint32_t *script,

@@ -108,8 +108,8 @@ module _ (A : Arithmetic) where
     pub runs : Runs p n
     pub crossed : Crossed (after n p)
 
--- A causal pair, one that is its own closure: no least is above its ceiling, and a round changes nothing. Every start that conforms to it
--- can be carried on; a pair with a figure that is only loose may have that too, and is not its own closure.
+-- A causal pair, one that is its own closure: no least is above its ceiling, and a round changes nothing. Every finite stream that
+-- conforms to it is extendable; that may be so of a pair with a figure that is only loose too, and this is not its own closure.
 pub record Causal (p : Pair) : Type 0 where
   pub uncrossed : ¬ Crossed whole (figuresOf whole p)
   pub settled : Settled whole (figuresOf whole p)

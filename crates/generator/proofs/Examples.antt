@@ -26,9 +26,9 @@ five-by-three : sendings some (5 ∷ 5 ∷ []) ≡ result 2 ∷ result 0 ∷ []
 unfolding sendings ranging ask legal? ⊎-map every every? Dec·and decLe decLt figure range? range-from fold sum
 five-by-three = refl
 
--- Closed curves open. A pair with a figure that says nothing does not, although every start that conforms can be extended: two ticks cannot
--- have 3 where one has at most 1, and they have 2 at least where one has 1. Nor does one that crosses and so has no closure: 15, and not 5,
--- although no round changes its figures. 4 comes first.
+-- Closed curves open. A pair with a figure that no stream meets does not, although every start that conforms can be extended: two ticks
+-- cannot have 3 where one has at most 1, and they have 2 at least where one has 1. Nor does one that crosses and so has no closure: 15, and
+-- not 5, although no round changes its figures. 4 comes first.
 openings
     : map generatorOpening (
     pair

@@ -29,7 +29,7 @@ pub enum GeneratorOpening {
     LowerLength,
     // 4: a figure is above 16,776,960.
     FigureLimit,
-    // 15: the pair is not its own closure, or has none. On what closing gives this is never the answer.
+    // 15: closing would change the pair, or finds no closure. On what closing gives this is never the answer.
     NotClosed,
 }
 

@@ -1,6 +1,6 @@
 -- Demand 2, as request P2 leaves it: its first sentence is one about 'too many' and 'too few', and the generator is compared with the
--- counts that are neither; where a generator opens, these are the counts that pass (NeverRefused: `SendsIffPasses`). Its last sentence, on
--- the closure, is closing's own (`GivesWhatArrives`, `ClosureIsArrivedAt`).
+-- counts that are neither; on a pair on which a generator opens, behind a stream that the monitor has passed, these are the counts that
+-- pass (NeverRefused: `SendsIffPasses`). Its last sentence, on the closure, is closing's own (`GivesWhatArrives`, `ClosureIsArrivedAt`).
 use Prim.Native.Nat.{ℕ, _≤_}
 use mathlib.Core.Path.{_≡_}
 use mathlib.Core.Bool.{false}

@@ -43,7 +43,7 @@ OpensIffAlreadyClosed = (p found : Pair) → RoomFor (horizon p) found → Gener
 abbrev pub FifteenIffNotClosed : Type 0
 FifteenIffNotClosed = (p found : Pair) → PassesFour p found → (generatorOpening p ≡ refusal 15) ↔ (¬ AlreadyClosed p found)
 
--- By streams alone: it opens exactly on the pairs each of whose figures is met by an unbounded stream that conforms.
+-- For lists that pass 1, 2 and 4, by streams alone: it opens exactly where each figure is met by an unbounded stream that conforms.
 abbrev pub OpensIffAllMet : Type 0
 OpensIffAllMet = (p : Pair) → AllYes (pairQuestions p) → GeneratorOpens p ↔ AllMet p p
 
