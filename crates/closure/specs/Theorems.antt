@@ -63,14 +63,15 @@ FollowsUpper = (p found : Pair) → GivesClosure p found → Follows p (upperAt 
 abbrev pub FollowsLower : Type 0
 FollowsLower = (p found : Pair) → GivesClosure p found → Follows p (lowerAt (closureOf p found))
 
--- Demand 3, its third sentence, the first half.
+-- A window of d ticks of some unbounded stream that conforms to p has the sum x.
 abbrev pub MetBySome : Pair → ℕ → ℕ → Type 0
 MetBySome p d x = (s : Stream) × Conforms∞ p (s .counts) × MetIn (s .counts) d x
 
--- Each figure of q is, up to the horizon of p.
+-- Each figure of q up to the horizon of p is met so.
 abbrev pub AllMet : Pair → Pair → Type 0
 AllMet p q = (d : ℕ) → 1 ≤ d → d ≤ horizon p → MetBySome p d (upperAt q d) × MetBySome p d (lowerAt q d)
 
+-- Demand 3, its third sentence, the first half.
 abbrev pub FiguresMet : Type 0
 FiguresMet = (p found : Pair) → GivesClosure p found → AllMet p (closureOf p found)
 

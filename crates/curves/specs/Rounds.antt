@@ -109,7 +109,7 @@ module _ (A : Arithmetic) where
     pub crossed : Crossed (after n p)
 
 -- A causal pair, one that is its own closure: no least is above its ceiling, and a round changes nothing. Every finite stream that
--- conforms to it is extendable; that may be so of a pair with a figure that is only loose too, and this is not its own closure.
+-- conforms to it is extendable. A pair with a figure that is only loose may have that too without being its own closure.
 pub record Causal (p : Pair) : Type 0 where
   pub uncrossed : ¬ Crossed whole (figuresOf whole p)
   pub settled : Settled whole (figuresOf whole p)

@@ -28,11 +28,16 @@ pub(crate) fn try_all() {
 
 // A generator on document 01's published pair as it is read, which no opening hands out, after 0, 2, 1, 0, 2, 0: no count can follow.
 fn try_stuck() {
-    let start = History::open(&[3, 6, 3, 12, 9], &[0, 0, 0, 0, 5]);
-    let opened = start.history;
-    let upper = opened.upper;
-    let lower = opened.lower;
-    let mut ticks = opened.ticks;
+    let mut upper = [0; MAX_HORIZON];
+    upper[0] = 3;
+    upper[1] = 6;
+    upper[2] = 3;
+    upper[3] = 12;
+    upper[4] = 9;
+    let mut lower = [0; MAX_HORIZON];
+    lower[4] = 5;
+    // 1, 0, 2, 0.
+    let mut ticks = [0; MAX_HORIZON];
     ticks[0] = 1;
     ticks[2] = 2;
     let history = History {
