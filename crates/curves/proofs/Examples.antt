@@ -6,6 +6,7 @@ use Rattle.laws.proofs.Search.{every}
 use Rattle.curves.specs.Streams.{sum, countsOf}
 use Rattle.curves.specs.Pairs.{Pair, pairOf, horizon, figure, upperAt, slack}
 use Rattle.curves.specs.Ticks.{newest, passed, tooMany, tooFew}
+use Rattle.curves.specs.Margins.{marginBetween}
 use Rattle.curves.specs.Rounds.{whole, cutOff, newFigure, round, figuresOf, after, Runs, Arrives}
 use Rattle.curves.proofs.Arrival.{crossed?, equal?}
 use Rattle.curves.proofs.Computed.{left?, same?, runs?, arrives?, arrives-computed}
@@ -91,3 +92,15 @@ shorter-first = refl
 many-first : verdict? (pairOf (1 ∷ []) (5 ∷ [])) (3 ∷ []) .0 ≡ tooMany 1
 unfolding verdict? find rejected inside? judged? decLe decLt Dec·and sum figure
 many-first = refl
+
+-- ---- the margin of one window
+-- Nearer to the ceiling, nearer to the least, on it, and outside.
+inside-margins : (marginBetween 10 2 7 ≡ pos 3) × (marginBetween 10 2 5 ≡ pos 3) × (marginBetween 10 2 4 ≡ pos 2)
+inside-margins = (refl, refl, refl)
+
+outside-margins : (marginBetween 10 2 2 ≡ pos 0) × (marginBetween 10 2 12 ≡ negsuc 1) × (marginBetween 10 2 0 ≡ negsuc 1)
+outside-margins = (refl, refl, refl)
+
+-- Where the figures cross it is negative on both limits, between them and beyond.
+crossing-margins : (marginBetween 2 5 2 ≡ negsuc 2) × (marginBetween 2 5 5 ≡ negsuc 2) × (marginBetween 2 5 3 ≡ negsuc 1)
+crossing-margins = (refl, refl, refl)

@@ -6,6 +6,7 @@ pub mod Sums
 pub mod Closed
 pub mod NextTick
 pub mod Verdicts
+pub mod Margins
 pub mod Extension
 pub mod Followed
 pub mod Kept

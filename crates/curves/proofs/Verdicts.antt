@@ -95,7 +95,7 @@ module _ (p : Pair) (xs : List ℕ) where
   verdict-is v r = right-once (verdict? .0) v (verdict? .1) r
 
 -- ---- streams with the same judged windows get the same verdict
-judged-alike : {p : Pair} {xs ys : List ℕ} {d : ℕ} → min (horizon p) (length xs) ≡ min (horizon p) (length ys)
+pub judged-alike : {p : Pair} {xs ys : List ℕ} {d : ℕ} → min (horizon p) (length xs) ≡ min (horizon p) (length ys)
     → Judged p xs d → Judged p ys d
 judged-alike e j = record { positive = j .positive; within = j .within; begun = omega (arith, j .within, j .begun) }
 

@@ -4,5 +4,6 @@ pub mod Pairs
 pub mod Conformance
 pub mod Ticks
 pub mod Rounds
+pub mod Margins
 pub mod Questions
 pub mod Theorems

@@ -6,5 +6,6 @@ pub mod Search
 pub mod Pigeonhole
 pub mod Tests
 pub mod Whole
+pub mod Signed
 pub mod Writing
 pub mod Copying

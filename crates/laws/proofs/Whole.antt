@@ -1,10 +1,10 @@
 -- Whole numbers for `omega`, which reads natural numbers: z is `up z` less `down z`, and an order of whole numbers is an order of sums
 -- of these. Assumes nothing.
 use Rattle.laws.proofs.Base.{ℕ, zero, suc, _+_, _-_, _≤_, _<_, min, max, _≡_, refl, ap, _∙_, Bool, true, false, cond}
-use Rattle.laws.proofs.Base.{decLe, arith, lt-ltb, le-ltb}
+use Rattle.laws.proofs.Base.{_⊎_, inl, inr, decLe, decLt, arith, lt-ltb, le-ltb}
 use lib.Dec.{leb, ltb→lt, lt→ltb, leb→le, le→leb}
 use lib.IntN.{ℤ, pos, negsuc, negℤ, subℕ, _-ℤ_}
-use lib.Signed.{_<ℤ_, _≤ℤ_, leZ}
+use lib.Signed.{_<ℤ_, _≤ℤ_, leZ, mag}
 use Rattle.laws.specs.Tests.{Tells}
 use Rattle.laws.proofs.Tests.{leb-told, tells-same}
 use Rattle.laws.proofs.Best.{IsBest}
@@ -44,6 +44,22 @@ parts-le (pos a) (negsuc b) h = absurd (omega arith)
 parts-le (negsuc a) (pos b) h = record { le = tt }
 parts-le (negsuc a) (negsuc b) h = record { le = le→leb b a (omega arith) }
 
+pub <ℤ-≤ℤ : (x y : ℤ) → x <ℤ y → x ≤ℤ y
+<ℤ-≤ℤ x y h = parts-le x y (omega (arith, lt-parts x y h))
+
+pub ≤ℤ-trans : (x y z : ℤ) → x ≤ℤ y → y ≤ℤ z → x ≤ℤ z
+≤ℤ-trans x y z h k = parts-le x z (omega (arith, le-parts x y h, le-parts y z k))
+
+pub ≤ℤ-antisym : (x y : ℤ) → x ≤ℤ y → y ≤ℤ x → x ≡ y
+≤ℤ-antisym (pos a) (pos b) h k = ap pos (omega (arith, le-parts (pos a) (pos b) h, le-parts (pos b) (pos a) k))
+≤ℤ-antisym (pos a) (negsuc b) h k = absurd (h .le)
+≤ℤ-antisym (negsuc a) (pos b) h k = absurd (k .le)
+≤ℤ-antisym (negsuc a) (negsuc b) h k = ap negsuc (omega (arith, le-parts (negsuc a) (negsuc b) h, le-parts (negsuc b) (negsuc a) k))
+
+unfoldable pub less? : (x y : ℤ) → (x <ℤ y) ⊎ (y ≤ℤ x)
+less? x y =
+    elim (decLt (up x + down y) (up y + down x)) [ yes h ↦ inl (parts-lt x y h) | no h ↦ inr (parts-le y x (omega arith)) ]
+
 le-told : (x y : ℤ) → Tells (leZ x y) (AtMost x y)
 le-told (pos a) (pos b) = tells-same (leb a b) ((λ h. omega arith), (λ h. omega arith)) (leb-told a b)
 le-told (pos a) (negsuc b) = λ h. omega arith
@@ -51,7 +67,7 @@ le-told (negsuc a) (pos b) = omega arith
 le-told (negsuc a) (negsuc b) = tells-same (leb b a) ((λ h. omega arith), (λ h. omega arith)) (leb-told b a)
 
 -- What the comparison of x and y tells holds, if it holds either way.
-compared : (x y : ℤ) (P : Bool → Type 0) → (AtMost x y → P true) → (AtMost y x → P false) → P (leZ x y)
+pub compared : (x y : ℤ) (P : Bool → Type 0) → (AtMost x y → P true) → (AtMost y x → P false) → P (leZ x y)
 compared x y P f g = go (leZ x y) (le-told x y)
   where
     go : (t : Bool) → Tells t (AtMost x y) → P t
@@ -100,12 +116,17 @@ neg-parts : (n : ℕ) → (up (negℤ (pos n)) ≡ 0) × (down (negℤ (pos n)) 
 neg-parts zero = (refl, refl)
 neg-parts (suc n) = (refl, refl)
 
-minus-parts : (a b : ℕ) → (up (pos a -ℤ pos b) ≡ a - b) × (down (pos a -ℤ pos b) ≡ b - a)
+pub minus-parts : (a b : ℕ) → (up (pos a -ℤ pos b) ≡ a - b) × (down (pos a -ℤ pos b) ≡ b - a)
 minus-parts a b =
     elim (decLe b a) [
       | yes h ↦ rw (minus-pos a b h) (refl, omega arith)
       | no h ↦ rw (minus-is a b, lt-ltb a b (omega arith)) (omega arith, omega arith)
     ]
+
+-- A number is no larger than its parts.
+pub mag-parts : (z : ℤ) → mag z ≤ up z + down z
+mag-parts (pos n) = omega arith
+mag-parts (negsuc n) = omega arith
 
 pub minus-above : (a b n : ℕ) → b ≤ a + n → negℤ (pos n) ≤ℤ (pos a -ℤ pos b)
 minus-above a b n h = parts-le (negℤ (pos n)) (pos a -ℤ pos b) (omega (arith, neg-parts n, minus-parts a b))
