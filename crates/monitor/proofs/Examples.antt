@@ -1,15 +1,20 @@
 -- The definitions of specs/ at small examples: each holds by computation. Assumes nothing.
-use Rattle.laws.proofs.Base.{_≡_, refl, true, false, [], _∷_, ⊎-map, Dec·and, decLe, decLt}
+use Rattle.laws.proofs.Base.{ℕ, _≡_, refl, true, false, [], _∷_, ⊎-map, Dec·and, decLe, decLt}
 use Rattle.laws.proofs.Search.{every, every?}
+use Rattle.laws.proofs.Whole.{less?}
+use lib.IntN.{ℤ, pos, negsuc}
 use Rattle.curves.specs.Streams.{sum}
 use Rattle.curves.specs.Pairs.{Pair, pairOf, figure}
 use Rattle.curves.specs.Ticks.{passed, tooMany, tooFew}
+use Rattle.curves.specs.Margins.{Margin}
 use Rattle.curves.specs.Questions.{ask, result, refusal}
 use Rattle.curves.proofs.Verdicts.{inside?, judged?, find, rejected, verdict?}
+use Rattle.curves.proofs.Margins.{tightest-to, tightest?}
 use Rattle.history.specs.States.{View, legal?}
 use Rattle.history.specs.Opening.{fresh}
 use Rattle.monitor.specs.Monitoring.{MonitorView, monitorView, legalMonitor?, judging, judged, lost, alreadyFailed}
-use Rattle.monitor.specs.Calls.{rulings}
+use Rattle.monitor.specs.Margins.{noMargin, carried}
+use Rattle.monitor.specs.Calls.{rulings, margins}
 
 -- Closed curves: closed again they stay as they are.
 abbrev pair : Pair
@@ -62,3 +67,36 @@ looser-passes
     : rulings looser (0 ∷ 0 ∷ 0 ∷ []) ≡ result (judged passed) ∷ result (judged passed) ∷ result (judged (tooFew 3)) ∷ []
 unfolding rulings judging ask legalMonitor? legal? ⊎-map every every? Dec·and decLe decLt figure verdict? find rejected inside? judged? sum
 looser-passes = refl
+
+-- ---- margins
+-- The window of d ticks has the margin z.
+abbrev has : ℕ → ℤ → Margin
+has d z = record { value = z; window = d }
+
+-- The run of README: the margin falls to 0, and then it is negative. The window with the smallest margin is the third, the verdict names
+-- the first.
+abbrev falling : MonitorView
+falling = let p : Pair = pairOf (10 ∷ 16 ∷ 20 ∷ []) (0 ∷ 2 ∷ 4 ∷ []) in monitorView (fresh p) p false
+
+falls
+    : margins falling (5 ∷ 6 ∷ 6 ∷ 7 ∷ 7 ∷ 12 ∷ 1 ∷ [])
+    ≡ has 1 (pos 5) ∷ has 1 (pos 4) ∷ has 3 (pos 3) ∷ has 3 (pos 1) ∷ has 3 (pos 0) ∷ has 3 (negsuc 5) ∷ noMargin ∷ []
+unfolding margins carried tightest? tightest-to less?
+    judging ask legalMonitor? legal? ⊎-map every every? Dec·and decLe decLt figure verdict? find rejected inside? judged? sum
+falls = refl
+
+-- A lost tick has the margin of the figures as given, on whose limit it is; the closed ones are broken.
+lost-on-limit : margins published (1 ∷ 0 ∷ 1 ∷ []) ≡ has 1 (pos 1) ∷ has 1 (pos 0) ∷ noMargin ∷ []
+unfolding margins carried tightest? tightest-to less?
+    judging ask legalMonitor? legal? ⊎-map every every? Dec·and decLe decLt figure verdict? find rejected inside? judged? sum
+lost-on-limit = refl
+
+-- As far from the one limit as from the other, and two windows with the same margin: the shorter is named.
+shorter-named : carried (monitorView some pair false) 1 ≡ has 1 (pos 1)
+unfolding carried tightest? tightest-to less? ask legalMonitor? legal? ⊎-map every every? Dec·and decLe decLt figure judged? sum
+shorter-named = refl
+
+-- A state that fails 12 has no margin.
+overfull-nothing : carried (monitorView overfull pair false) 0 ≡ noMargin
+unfolding carried ask legalMonitor? legal? ⊎-map every every? Dec·and decLe decLt figure
+overfull-nothing = refl

@@ -1,15 +1,22 @@
 -- Laws over plain variables for judging a tick: what a turn of the loop keeps, and the verdict at each way out.
 -- Assumes nothing.
-use Rattle.laws.proofs.Base.{ℕ, suc, _+_, _-_, _≤_, _<_, _≡_, sym, ap, List, add-one, arith, length, getD}
+use Rattle.laws.proofs.Base.{ℕ, suc, _+_, _-_, _≤_, _<_, _≡_, sym, ap, subst, List, add-one, decLt, arith, lt-ltb, le-ltb, length, getD}
+use lib.IntN.{ℤ, pos}
+use lib.Signed.{_≤ℤ_, _<ℤ_}
 use Rattle.curves.specs.Pairs.{Pair, pairOf, figure}
 use Rattle.curves.specs.Conformance.{TooMany, TooFew}
 use Rattle.curves.specs.Ticks.{then, last, Judged, Verdict, passed, tooMany, tooFew, Right}
+use Rattle.curves.specs.Margins.{marginBetween, Margin, Tightest}
 use Rattle.curves.specs.Questions.{result}
 use Rattle.curves.proofs.NextTick.{last-none, last-more, length-then, last-next}
-use Rattle.curves.proofs.Verdicts.{KeptTo, kept-none, kept-more, shortest, verdict-is}
+use Rattle.curves.proofs.Verdicts.{KeptTo, kept-more, shortest, verdict-is}
+use Rattle.curves.proofs.Margins.{left-between, below-between, marginAt, TightestTo, tightest-one, tightest-kept, tightest-new}
+use Rattle.curves.proofs.Margins.{tightest-all}
 use Rattle.history.proofs.Slicing.{judged-next}
 use Rattle.history.specs.Steps.{Slices, viewWith}
 use Rattle.monitor.specs.Monitoring.{judged, verdictOn}
+use Rattle.monitor.specs.Answers.{verdictReply}
+use Rattle.monitor.specs.Steps.{outsideAs}
 
 module _ (us ls xs : List ℕ) (count : ℕ) where
   abbrev p : Pair
@@ -18,15 +25,18 @@ module _ (us ls xs : List ℕ) (count : ℕ) where
   abbrev ys : List ℕ
   ys = then xs count
 
-  -- Where the turn for the window of d + 1 ticks begins: the sum is that of this window, and the shorter ones keep their figures.
-  pub record JudgedTo (s d : ℕ) : Type 0 where
+  -- Where the turn for the window of d + 1 ticks begins: there are the ticks for it, and the sum is that of this window.
+  pub record SummedTo (s d : ℕ) : Type 0 where
     pub held : d ≤ length xs
     pub summed : s ≡ last xs d + count
-    pub kept : KeptTo p ys d
 
-  -- The first turn is for the window of the new tick alone.
-  pub judged-none : JudgedTo count 0
-  judged-none = record { held = omega arith; summed = omega (arith, last-none xs); kept = kept-none p ys }
+  -- The first turn is for the window of the new tick alone, and each has one tick more than that before.
+  pub summed-none : SummedTo count 0
+  summed-none = record { held = omega arith; summed = omega (arith, last-none xs) }
+
+  pub summed-more : (s d : ℕ) → SummedTo s d → d < length xs → SummedTo (s + getD xs (length xs - 1 - d) 0) (d + 1)
+  summed-more s d R l =
+      record { held = omega arith; summed = rw (add-one d) (omega (arith, R .summed, last-more xs d l)) }
 
   -- The verdict is the one that is answered; and the right one is.
   abbrev pub IsAnswered : Verdict → Type 0
@@ -35,54 +45,86 @@ module _ (us ls xs : List ℕ) (count : ℕ) where
   right-found : (v : Verdict) → Right p ys v → IsAnswered v
   right-found v r = ap (λ v. result (judged v)) (sym (verdict-is p ys v r))
 
-  module _ (S : Slices us ls xs) (s d : ℕ) (R : JudgedTo s d) where
-    -- What the turn compares: its sum is the window's, and the entry with index d is the figure of d + 1 ticks.
+  module _ (S : Slices us ls xs) (s d : ℕ) (R : SummedTo s d) where
+    -- What the turn looks at: its sum is the window's, and the entries with index d are the figures of d + 1 ticks.
     window : last ys (suc d) ≡ s
     window = omega (arith, last-next xs count d (R .held), R .summed)
 
     is-judged : Judged p ys (suc d)
     is-judged = judged-next us ls xs count d S (R .held)
 
-    many : getD us d 0 < s → TooMany p (suc d) (last ys (suc d))
+    pub margin-is : marginAt p ys (suc d) ≡ marginBetween (getD us d 0) (getD ls d 0) s
     unfolding figure
-    many l = omega (arith, window)
+    margin-is = ap (marginBetween (getD us d 0) (getD ls d 0)) window
 
-    not-many : s ≤ getD us d 0 → ¬ TooMany p (suc d) (last ys (suc d))
-    unfolding figure
-    not-many l m = omega (arith, window)
+    -- ---- judging: the windows of up to d ticks keep their figures
+    module _ (K : KeptTo p ys d) where
+      many : getD us d 0 < s → TooMany p (suc d) (last ys (suc d))
+      unfolding figure
+      many l = omega (arith, window)
 
-    few : s < getD ls d 0 → TooFew p (suc d) (last ys (suc d))
-    unfolding figure
-    few l = omega (arith, window)
+      few : s < getD ls d 0 → TooFew p (suc d) (last ys (suc d))
+      unfolding figure
+      few l = omega (arith, window)
 
-    not-few : getD ls d 0 ≤ s → ¬ TooFew p (suc d) (last ys (suc d))
-    unfolding figure
-    not-few l m = omega (arith, window)
+      -- The window of d + 1 ticks keeps its figures, too.
+      pub one-more : pos 0 ≤ℤ marginBetween (getD us d 0) (getD ls d 0) s → KeptTo p ys (d + 1)
+      unfolding figure
+      one-more h =
+          let k = left-between (getD us d 0) (getD ls d 0) s 0 .0 h in
+          rw (add-one d) (kept-more p ys d K (λ j. ((λ q. omega (arith, window)), (λ q. omega (arith, window)))))
 
-    -- The window of d + 1 ticks keeps its figures, too.
-    one-more : s ≤ getD us d 0 → getD ls d 0 ≤ s → KeptTo p ys (suc d)
-    one-more m f = kept-more p ys d (R .kept) (λ j. (not-many m, not-few f))
+      -- The ways out: it is outside, or there is no tick before it.
+      found-many : getD us d 0 < s → IsAnswered (tooMany (d + 1))
+      found-many l =
+          rw (add-one d) (right-found (tooMany (suc d)) (shortest p ys d K is-judged (λ i. i .0 (many l)), many l))
 
-    -- The next turn has one tick more.
-    pub judged-more
-        : s ≤ getD us d 0 → getD ls d 0 ≤ s → d < length xs → JudgedTo (s + getD xs (length xs - 1 - d) 0) (d + 1)
-    judged-more m f l =
-        record {
-          held = omega arith;
-          summed = rw (add-one d) (omega (arith, R .summed, last-more xs d l));
-          kept = rw (add-one d) (one-more m f);
-        }
+      found-few : s ≤ getD us d 0 → s < getD ls d 0 → IsAnswered (tooFew (d + 1))
+      unfolding figure
+      found-few m l =
+          rw (add-one d)
+          (right-found (tooFew (suc d))
+          (shortest p ys d K is-judged (λ i. i .1 (few l)), (λ q. omega (arith, window)), few l))
 
-    -- The ways out: it has too many, it has too few, or there is no tick before it.
-    pub found-many : getD us d 0 < s → IsAnswered (tooMany (d + 1))
-    found-many l =
-        rw (add-one d) (right-found (tooMany (suc d)) (shortest p ys d (R .kept) is-judged (λ i. i .0 (many l)), many l))
+      pub found-outside : marginBetween (getD us d 0) (getD ls d 0) s <ℤ pos 0
+          → verdictReply (outsideAs (getD us d 0) s (d + 1)) ≡ result (judged (verdictOn (viewWith us ls xs) count))
+      found-outside h =
+          elim (decLt (getD us d 0) s) [
+            | yes m ↦ rw (lt-ltb (getD us d 0) s m) (found-many m)
+            | no m ↦
+                let k : s ≤ getD us d 0 = omega arith in
+                rw (le-ltb (getD us d 0) s k) (found-few k (below-between (getD us d 0) (getD ls d 0) s h k))
+          ]
 
-    pub found-few : s ≤ getD us d 0 → s < getD ls d 0 → IsAnswered (tooFew (d + 1))
-    found-few m l =
-        rw (add-one d) (right-found (tooFew (suc d)) (shortest p ys d (R .kept) is-judged (λ i. i .1 (few l)), not-many m, few l))
+      pub found-none : pos 0 ≤ℤ marginBetween (getD us d 0) (getD ls d 0) s → length xs ≤ d → IsAnswered passed
+      found-none h l =
+          right-found passed
+          (λ e j. one-more h e (let b : e ≤ length ys = j .begun in omega (arith, length-then xs count)) j)
 
-    pub found-none : s ≤ getD us d 0 → getD ls d 0 ≤ s → length xs ≤ d → IsAnswered passed
-    found-none m f h =
-        right-found passed
-        (λ e j. one-more m f e (let b : e ≤ length ys = j .begun in omega (arith, length-then xs count)) j)
+    -- ---- the smallest margin, over the windows of up to d + 1 ticks
+    abbrev here : ℤ
+    here = marginBetween (getD us d 0) (getD ls d 0) s
+
+    abbrev pub hereOf : Margin
+    hereOf = record { value = here; window = d + 1 }
+
+    -- It takes the place of the smallest over the shorter ones where it is smaller, and else that stays.
+    pub smallest-new : (m : Margin) → TightestTo p ys d m → here <ℤ m .value → TightestTo p ys (d + 1) hereOf
+    smallest-new m T l =
+        rw (add-one d)
+        (subst (λ z. TightestTo p ys (suc d) (record { value = z; window = suc d })) margin-is
+        (tightest-new p ys d m T is-judged (subst (λ z. z <ℤ m .value) (sym margin-is) l)))
+
+    pub smallest-kept : (m : Margin) → TightestTo p ys d m → m .value ≤ℤ here → TightestTo p ys (d + 1) m
+    smallest-kept m T l = rw (add-one d) (tightest-kept p ys d m T (λ j. subst (λ z. m .value ≤ℤ z) (sym margin-is) l))
+
+    -- Where there is no tick before it, it is the smallest of all.
+    pub smallest-all : (m : Margin) → length xs ≤ d → TightestTo p ys (d + 1) m → Tightest p ys m
+    smallest-all m l =
+        tightest-all p ys (d + 1) m (λ e j. let b : e ≤ length ys = j .begun in omega (arith, length-then xs count))
+
+  -- That of the new tick alone is the first.
+  pub smallest-first : (S : Slices us ls xs) → TightestTo p ys 1 (hereOf S count 0 summed-none)
+  smallest-first S =
+      subst (λ z. TightestTo p ys 1 (record { value = z; window = 1 })) (margin-is S count 0 summed-none)
+      (tightest-one p ys (is-judged S count 0 summed-none))

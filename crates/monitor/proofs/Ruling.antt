@@ -1,62 +1,74 @@
 -- Laws over plain variables for what follows the two runs of the judge: the ruling, the held ticks and the next state.
 -- Assumes nothing.
-use Rattle.laws.proofs.Base.{ℕ, _-_, _≡_, refl, sym, ap, _∙_, Bool, false, List, [], _∷_, _++_, arith, take, drop}
+use Rattle.laws.proofs.Base.{ℕ, _-_, _≡_, refl, sym, ap, _∙_, subst⁻¹, Bool, true, false, List, [], _∷_, _++_, arith, take, drop}
+use lib.IntN.{pos}
+use lib.Signed.{_<ℤ_, _≤ℤ_}
 use types.Run.{OneOf, miss}
 use denote.Enum.Declared.{tagOf}
 use Rattle.curves.specs.Pairs.{horizon}
 use Rattle.curves.specs.Ticks as ticks
+use Rattle.curves.specs.Margins.{Margin, Tightest}
 use Rattle.curves.specs.Questions.{result}
+use Rattle.curves.proofs.Verdicts.{verdict?, verdict-is}
+use Rattle.curves.proofs.Margins.{tightest-negative, tightest-keeps}
 use Rattle.lists.specs.Pushing.{Pushed}
 use Rattle.history.specs.declared.History.{History}
 use Rattle.history.specs.States.{View, historyOf, viewOf, added, Legal}
 use Rattle.history.proofs.Histories.{horizon-seen, held-seen}
 use Rattle.history.proofs.Slicing.{Arrays, some-window, tick-for-each, added-is}
 use Rattle.monitor.specs.declared.Monitor.{Monitor}
+use Rattle.monitor.specs.declared.Finding.{Finding}
 use Rattle.monitor.specs.declared.Verdict.{Verdict}
 use Rattle.monitor.specs.declared.Verdict.the-variants.{Passed, TooMany, TooFew, Lost, AlreadyFailed, BadState}
 use Rattle.monitor.proofs.Verdict.{the-type}
 use Rattle.monitor.specs.Monitoring.{MonitorView, monitorView, monitorOf, monitorViewOf, closedView, LegalMonitor, verdictOn}
 use Rattle.monitor.specs.Monitoring.{judged, lost, ruled, judging, afterPassed, MonitorNext}
+use Rattle.monitor.specs.Margins.{noMargin, carried}
 use Rattle.monitor.specs.Answers.{verdictReply}
-use Rattle.monitor.specs.Steps.{ClosedWithin, HoldsWhere, HeldMore, HeldAsFound, Held, markAfter}
-use Rattle.monitor.proofs.Said.{judging-legal, judging-unfailed}
+use Rattle.monitor.specs.Steps.{ClosedWithin, marginFound, unjudgedAs, FoundOf, RuledOf, lostUnlessPassed}
+use Rattle.monitor.specs.Steps.{HoldsWhere, HeldMore, HeldAsFound, Held, markAfter}
+use Rattle.monitor.proofs.Said.{judging-bad, judging-failed, judging-legal, judging-unfailed}
+use Rattle.monitor.proofs.Said.{carried-bad, carried-failed, carried-judged}
 
 -- ---- the ruling
 -- The tags of all cases but `Passed`.
 abbrev pub others : List ℕ
 others = 1 ∷ 2 ∷ 3 ∷ 4 ∷ 5 ∷ []
 
--- `Passed` alone stands for a verdict that passes.
-passed-only : (v : Verdict) → OneOf others (tagOf the-type v) → ¬ (verdictReply v ≡ result (judged ticks.passed))
-passed-only Passed m e = miss others 0 tt m
-passed-only (TooMany d) m e = let z : _≡_ {A = ℕ} 0 1 = cc in omega arith
-passed-only (TooFew d) m e = let z : _≡_ {A = ℕ} 0 1 = cc in omega arith
-passed-only Lost m e = let z : _≡_ {A = ℕ} 0 1 = cc in omega arith
-passed-only AlreadyFailed m e = let z : _≡_ {A = ℕ} 0 1 = cc in omega arith
-passed-only BadState m e = let z : _≡_ {A = ℕ} 0 1 = cc in omega arith
+-- All others are lost, where the closed figures were judged.
+pub lost-unless : (v : Verdict) → OneOf others (tagOf the-type v) → Lost ≡ lostUnlessPassed v
+lost-unless Passed m = absurd (miss others 0 tt m)
+lost-unless (TooMany d) m = refl
+lost-unless (TooFew d) m = refl
+lost-unless Lost m = refl
+lost-unless AlreadyFailed m = refl
+lost-unless BadState m = refl
 
--- What the first run of the judge answers stands, where it does not pass.
-pub ruled-first : (v : Verdict) (u u′ : ticks.Verdict) → OneOf others (tagOf the-type v) → verdictReply v ≡ result (judged u)
-    → verdictReply v ≡ result (ruled u u′)
-ruled-first v ticks.passed u′ m e = absurd (passed-only v m e)
-ruled-first v (ticks.tooMany d) u′ m e = e
-ruled-first v (ticks.tooFew d) u′ m e = e
+ruled-closed : (v : Verdict) (u : ticks.Verdict) → verdictReply v ≡ result (judged u)
+    → verdictReply (lostUnlessPassed v) ≡ result (ruled ticks.passed u)
+ruled-closed Passed u e = let h : ticks.passed ≡ u = cc in ap (λ u. result (ruled ticks.passed u)) h
+ruled-closed (TooMany d) u e = let h : ticks.tooMany d ≡ u = cc in ap (λ u. result (ruled ticks.passed u)) h
+ruled-closed (TooFew d) u e = let h : ticks.tooFew d ≡ u = cc in ap (λ u. result (ruled ticks.passed u)) h
+ruled-closed Lost u e = let z : _≡_ {A = ℕ} 0 1 = cc in absurd (omega arith)
+ruled-closed AlreadyFailed u e = let z : _≡_ {A = ℕ} 0 1 = cc in absurd (omega arith)
+ruled-closed BadState u e = let z : _≡_ {A = ℕ} 0 1 = cc in absurd (omega arith)
 
--- Where it passes, the second run decides.
-pub ruled-lost : (v v′ : Verdict) (u u′ : ticks.Verdict) → v ≡ Passed → verdictReply v ≡ result (judged u)
-    → OneOf others (tagOf the-type v′) → verdictReply v′ ≡ result (judged u′) → result lost ≡ result (ruled u u′)
-ruled-lost v v′ ticks.passed ticks.passed k e m e′ = absurd (passed-only v′ m e′)
-ruled-lost v v′ ticks.passed (ticks.tooMany d) k e m e′ = refl
-ruled-lost v v′ ticks.passed (ticks.tooFew d) k e m e′ = refl
-ruled-lost v v′ (ticks.tooMany d) u′ k e m e′ = let z : _≡_ {A = ℕ} 0 1 = cc (ap verdictReply k) in absurd (omega arith)
-ruled-lost v v′ (ticks.tooFew d) u′ k e m e′ = let z : _≡_ {A = ℕ} 0 1 = cc (ap verdictReply k) in absurd (omega arith)
+-- The margin tells which figures decide: where it is negative those as given, and else the closed ones, as the tick passes by the first.
+module _ (v v′ : View) (x : ℕ) (m : Margin) (t : Tightest (v .pair) (ticks.then (v .held) x) m) (r : Verdict) where
+  pub ruled-outside : m .value <ℤ pos 0 → verdictReply r ≡ result (judged (verdictOn v x))
+      → verdictReply r ≡ result (ruled (verdictOn v x) (verdictOn v′ x))
+  ruled-outside h e = e ∙ go (verdictOn v x) (verdict? (v .pair) (ticks.then (v .held) x) .1)
+    where
+      go : (u : ticks.Verdict) → ticks.Right (v .pair) (ticks.then (v .held) x) u → result (judged u) ≡ result (ruled u (verdictOn v′ x))
+      go ticks.passed k = absurd (tightest-negative (v .pair) (v .held) x m t .0 h k)
+      go (ticks.tooMany d) k = refl
+      go (ticks.tooFew d) k = refl
 
-pub ruled-passed : (v v′ : Verdict) (u u′ : ticks.Verdict) → v ≡ Passed → verdictReply v ≡ result (judged u)
-    → v′ ≡ Passed → verdictReply v′ ≡ result (judged u′) → result (judged ticks.passed) ≡ result (ruled u u′)
-ruled-passed v v′ u u′ k e k′ e′ =
-    let h : ticks.passed ≡ u = cc (ap verdictReply k) in
-    let h′ : ticks.passed ≡ u′ = cc (ap verdictReply k′) in
-    λ i. result (ruled (h i) (h′ i))
+  pub ruled-inside : pos 0 ≤ℤ m .value → verdictReply r ≡ result (judged (verdictOn v′ x))
+      → verdictReply (lostUnlessPassed r) ≡ result (ruled (verdictOn v x) (verdictOn v′ x))
+  ruled-inside h e =
+      let passes = verdict-is (v .pair) (ticks.then (v .held) x) ticks.passed (tightest-keeps (v .pair) (v .held) x m t h) in
+      ruled-closed r (verdictOn v′ x) e ∙ ap (λ u. result (ruled u (verdictOn v′ x))) (sym passes)
 
 -- The held ticks with closed figures that are within the limit have the form of a state too: the sizes are those of the history.
 pub closed-legal : (h : History) (us ls : List ℕ) → Legal (viewOf h) → ClosedWithin (h .horizon) us ls
@@ -70,11 +82,28 @@ closed-legal h us ls l b =
       fewer = omega (arith, wide, held-seen other, held-seen h, l .fewer);
     }
 
--- The two runs are on slices of what the state has.
-pub ruled-answers : (w : MonitorView) (x : ℕ) → LegalMonitor w → w .failed ≡ false → (r : Verdict) (v v′ : View)
-    → w .view ≡ v → closedView w ≡ v′ → verdictReply r ≡ result (ruled (verdictOn v x) (verdictOn v′ x)) → verdictReply r ≡ judging w x
-ruled-answers w x l f r v v′ e e′ is =
-    is ∙ (λ i. result (ruled (verdictOn (sym e i) x) (verdictOn (sym e′ i) x))) ∙ sym (judging-unfailed w x l f)
+-- Where no window is judged.
+unjudged-found : (w : MonitorView) (x : ℕ) (v : Verdict) (r : Finding) → r ≡ unjudgedAs v → judging w x ≡ verdictReply v
+    → carried w x ≡ noMargin → FoundOf w x r
+unjudged-found w x v r is e n = rw is (record { answer = sym e; margin = sym n })
+
+pub bad-found : (w : MonitorView) (x : ℕ) (r : Finding) → r ≡ unjudgedAs BadState → ¬ LegalMonitor w → FoundOf w x r
+bad-found w x r is n = unjudged-found w x BadState r is (judging-bad w x n) (carried-bad w x n)
+
+pub failed-found : (w : MonitorView) (x : ℕ) (r : Finding) → r ≡ unjudgedAs AlreadyFailed → LegalMonitor w → w .failed ≡ true
+    → FoundOf w x r
+failed-found w x r is l f = unjudged-found w x AlreadyFailed r is (judging-failed w x l f) (carried-failed w x l f)
+
+-- The slices are what the state has.
+pub ruled-found : (w : MonitorView) (x : ℕ) → LegalMonitor w → w .failed ≡ false → (r : Finding) (v v′ : View)
+    → w .view ≡ v → closedView w ≡ v′ → RuledOf v v′ x r → FoundOf w x r
+ruled-found w x l f r v v′ e e′ is =
+    record {
+      answer = is .answer ∙ (λ i. result (ruled (verdictOn (sym e i) x) (verdictOn (sym e′ i) x))) ∙ sym (judging-unfailed w x l f);
+      margin =
+          carried-judged w x l f (marginFound r)
+          (subst⁻¹ (λ (v : View). Tightest (v .pair) (ticks.then (v .held) x) (marginFound r)) e (is .margin));
+    }
 
 -- ---- the next state
 -- A tick passes only where the state has its form.

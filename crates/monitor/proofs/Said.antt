@@ -1,13 +1,16 @@
 -- What the operations answer, case by case, and the views of the states that they hand back. Assumes nothing.
 use Rattle.laws.proofs.Base.{ℕ, _≡_, refl, sym, ap, _∙_, subst, Bool, true, false, cond, arith, inl}
 use Rattle.curves.specs.Ticks.{then, Verdict, passed, tooMany, tooFew, Right}
+use Rattle.curves.specs.Margins.{Margin, Tightest}
 use Rattle.curves.specs.Questions.{Reply, result, refusal}
 use Rattle.curves.proofs.Asked.{said-no, said-yes, same-result, result-from}
 use Rattle.curves.proofs.Verdicts.{verdict?}
+use Rattle.curves.proofs.Margins.{tightest?, tightest-is}
 use Rattle.monitor.specs.declared.Monitor.{Monitor}
 use Rattle.monitor.specs.declared.Judgement.{Judgement}
 use Rattle.monitor.specs.Monitoring.{MonitorView, monitorViewOf, LegalMonitor, Ruling, judged, lost, alreadyFailed, ruled, rulingOn}
 use Rattle.monitor.specs.Monitoring.{verdictOn, closedView, judging, MonitorNext}
+use Rattle.monitor.specs.Margins.{noMargin, marginFrom, carried}
 use Rattle.monitor.specs.Promises.{MonitorTicked}
 use Rattle.monitor.specs.Calls.{monitorAfter, afterTick}
 
@@ -35,6 +38,27 @@ module _ (w : MonitorView) (x : ℕ) where
   pub judging-legal : (r : Ruling) → judging w x ≡ result r → LegalMonitor w
   unfolding judging
   judging-legal r e = result-from _ _ r e .0 .0
+
+  -- ---- and what it carries
+  pub carried-bad : ¬ LegalMonitor w → carried w x ≡ noMargin
+  unfolding carried
+  carried-bad n = ap marginFrom (said-no _ _ _ 12 (inl (refl, n)))
+
+  carried-is : LegalMonitor w → (b : Bool) → w .failed ≡ b → (m : Margin) → Tightest (w .view .pair) (then (w .view .held) x) m
+      → carried w x ≡ cond b noMargin m
+  unfolding carried
+  carried-is l b f m t =
+      ap marginFrom
+      (said-yes _ _ _ (result (cond b noMargin m)) (l, tt)
+      (λ ys i. result (cond (f i) noMargin (sym (tightest-is (w .view .pair) (w .view .held) x (ys .0 .given .lengths .0) m t) i))))
+
+  pub carried-failed : LegalMonitor w → w .failed ≡ true → carried w x ≡ noMargin
+  carried-failed l f =
+      let found = tightest? (w .view .pair) (w .view .held) x (l .given .lengths .0) in carried-is l true f (found .0) (found .1)
+
+  pub carried-judged : LegalMonitor w → w .failed ≡ false → (m : Margin) → Tightest (w .view .pair) (then (w .view .held) x) m
+      → m ≡ carried w x
+  carried-judged l f m t = sym (carried-is l false f m t)
 
 -- A verdict that is answered is the one by the figures as given.
 pub ruled-given : (u u′ v : Verdict) → ruled u u′ ≡ judged v → u ≡ v

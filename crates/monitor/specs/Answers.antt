@@ -1,10 +1,12 @@
--- Document 01's number and values for each case of `MonitorOpening` and of `Verdict`.
+-- Document 01's number and values for each case of `MonitorOpening` and of `Verdict`, and the margin of a judgement.
 use Rattle.curves.specs.Ticks.{passed, tooMany, tooFew}
+use Rattle.curves.specs.Margins.{Margin}
 use Rattle.curves.specs.Questions.{Reply, result, refusal}
 use Rattle.monitor.specs.declared.MonitorOpening.{MonitorOpening}
 use Rattle.monitor.specs.declared.MonitorOpening.the-variants as opening
 use Rattle.monitor.specs.declared.Verdict.{Verdict}
 use Rattle.monitor.specs.declared.Verdict.the-variants.{Passed, TooMany, TooFew, Lost, AlreadyFailed, BadState}
+use Rattle.monitor.specs.declared.Judgement.{Judgement}
 use Rattle.monitor.specs.Monitoring.{Ruling, judged, lost, alreadyFailed}
 
 abbrev pub monitorOpeningReply : MonitorOpening → Reply (Unit {0})
@@ -21,3 +23,7 @@ verdictReply (TooFew d) = result (judged (tooFew d))
 verdictReply Lost = result lost
 verdictReply AlreadyFailed = result alreadyFailed
 verdictReply BadState = refusal 12
+
+-- What a judgement carries beside it.
+abbrev pub marginIn : Judgement → Margin
+marginIn r = record { value = r .margin; window = r .window }

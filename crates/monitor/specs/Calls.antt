@@ -3,10 +3,12 @@ use Prim.Native.Nat.{ℕ}
 use mathlib.Core.List.{List, [], _∷_}
 use mathlib.Core.Bool.{true}
 use Rattle.curves.specs.Ticks.{passed, tooMany, tooFew}
+use Rattle.curves.specs.Margins.{Margin}
 use Rattle.curves.specs.Questions.{Reply, result, refusal}
 use Rattle.monitor.specs.declared.Monitor.{Monitor}
 use Rattle.monitor.specs.declared.Judgement.{Judgement}
 use Rattle.monitor.specs.Monitoring.{MonitorView, monitorView, Ruling, judged, lost, alreadyFailed, judging, afterPassed}
+use Rattle.monitor.specs.Margins.{carried}
 use Rattle.monitor.specs.Promises.{MonitorTicked}
 
 -- ---- by the view of a state
@@ -34,6 +36,11 @@ afterTicks w (x ∷ xs) = afterTicks (afterTick w x) xs
 unfoldable pub rulings : MonitorView → List ℕ → List (Reply Ruling)
 rulings w [] = []
 rulings w (x ∷ xs) = judging w x ∷ rulings (afterTick w x) xs
+
+-- And what they carry.
+unfoldable pub margins : MonitorView → List ℕ → List Margin
+margins w [] = []
+margins w (x ∷ xs) = carried w x ∷ margins (afterTick w x) xs
 
 -- ---- any results that the promises allow
 -- A tick: its count, and what came back.

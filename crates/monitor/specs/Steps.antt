@@ -1,22 +1,32 @@
 -- What the private functions of this crate promise each other. No public promise cites anything of it.
-use Prim.Native.Nat.{ℕ, _-_, _≤_}
+use Prim.Native.Nat.{ℕ, _-_, _*_, _≤_}
 use mathlib.Core.Path.{_≡_}
-use mathlib.Core.Bool.{Bool, true, false}
+use mathlib.Core.Bool.{Bool, true, false, cond}
 use mathlib.Core.List.{List, _++_}
+use lib.Dec.{ltb}
+use lib.IntN.{pos}
 use lib.ListN.{length, take, drop}
-use Rattle.bounds.specs.Bounds.{Bounded}
+use Rattle.curves.specs.Streams.{countLimit}
+use Rattle.curves.specs.Ticks.{then}
+use Rattle.curves.specs.Margins.{Margin, Tightest}
+use Rattle.curves.specs.Questions.{result}
+use Rattle.bounds.specs.Bounds.{maxHorizon, Bounded}
 use Rattle.lists.specs.Pushing.{Pushed}
 use Rattle.closure.specs.declared.Closing.{Closing}
 use Rattle.closure.specs.declared.Closing.the-variants as closing
 use Rattle.history.specs.declared.History.{History}
-use Rattle.history.specs.States.{entries}
+use Rattle.history.specs.States.{View, entries}
 use Rattle.monitor.specs.declared.Monitor.{Monitor}
 use Rattle.monitor.specs.declared.MonitorOpening.{MonitorOpening}
 use Rattle.monitor.specs.declared.MonitorOpening.the-variants as opening
 use Rattle.monitor.specs.declared.Verdict.{Verdict}
 use Rattle.monitor.specs.declared.Verdict.the-variants.{Passed, TooMany, TooFew, Lost, AlreadyFailed, BadState}
-use Rattle.monitor.specs.Monitoring.{monitorOf}
+use Rattle.monitor.specs.declared.Finding.{Finding}
+use Rattle.monitor.specs.declared.Smallest.{Smallest}
+use Rattle.monitor.specs.Monitoring.{MonitorView, monitorOf, verdictOn, ruled, judging}
+use Rattle.monitor.specs.Margins.{carried}
 use Rattle.monitor.specs.Opening.{zeroMonitor}
+use Rattle.monitor.specs.Answers.{verdictReply}
 
 -- ---- an opening
 -- What it answers to what closing answered. With room for every horizon closing is not refused with 3.
@@ -40,6 +50,43 @@ begunAs opening.NoClosure h us ls = zeroMonitor
 -- What it asks of the closed figures, by the arrays that hold them.
 abbrev pub ClosedWithin : ℕ → List ℕ → List ℕ → Type 0
 ClosedWithin h us ls = Bounded (entries h us) × Bounded (entries h ls)
+
+-- ---- what is found of a tick
+abbrev pub marginFound : Finding → Margin
+marginFound r = record { value = r .margin; window = r .window }
+
+abbrev pub smallestIn : Smallest → Margin
+smallestIn r = record { value = r .margin; window = r .window }
+
+-- Where no window is judged.
+abbrev pub unjudgedAs : Verdict → Finding
+unjudgedAs v = record { verdict = v; margin = pos 0; window = 0 }
+
+pub record FoundOf (w : MonitorView) (x : ℕ) (r : Finding) : Type 0 where
+  pub answer : verdictReply (r .verdict) ≡ judging w x
+  pub margin : marginFound r ≡ carried w x
+
+-- By a view with the figures as given, and one with the closed figures.
+pub record RuledOf (v v′ : View) (x : ℕ) (r : Finding) : Type 0 where
+  pub answer : verdictReply (r .verdict) ≡ result (ruled (verdictOn v x) (verdictOn v′ x))
+  pub margin : Tightest (v .pair) (then (v .held) x) (marginFound r)
+
+-- The verdict on a tick that keeps the figures as given, from the one by the closed figures.
+abbrev pub lostUnlessPassed : Verdict → Verdict
+lostUnlessPassed Passed = Passed
+lostUnlessPassed (TooMany d) = Lost
+lostUnlessPassed (TooFew d) = Lost
+lostUnlessPassed Lost = Lost
+lostUnlessPassed AlreadyFailed = Lost
+lostUnlessPassed BadState = Lost
+
+-- The verdict on a window of d ticks with the sum x that is outside its figures, the ceiling being u.
+abbrev pub outsideAs : ℕ → ℕ → ℕ → Verdict
+outsideAs u x d = cond (ltb u x) (TooMany d) (TooFew d)
+
+-- No window has a larger sum.
+abbrev pub windowLimit : ℕ
+windowLimit = maxHorizon * countLimit
 
 -- ---- the held ticks after a verdict
 -- The horizon matters where a tick is to be added.

@@ -7,15 +7,18 @@ ghost use mathlib.Core.Path.{_≡_};
 ghost use Prim.Native.Nat.{_≤_};
 ghost use Rattle.laws.specs.Tests.{Tells};
 ghost use Rattle.curves.specs.Pairs.{pairOf};
+ghost use Rattle.curves.specs.Ticks.{then};
+ghost use Rattle.curves.specs.Margins.{marginBetween, Tightest};
 ghost use Rattle.curves.specs.Questions.{result};
 ghost use Rattle.bounds.specs.Bounds.{maxHorizon};
 ghost use Rattle.history.specs.States.{historyOf};
 ghost use Rattle.history.specs.Steps.{Slices, viewWith};
-ghost use Rattle.monitor.specs.Monitoring.{monitorOf, monitorViewOf, judged, verdictOn, ruled, judging};
+ghost use Rattle.monitor.specs.Monitoring.{monitorOf, monitorViewOf, judged, verdictOn};
 ghost use Rattle.monitor.specs.Opening.{zeroMonitor};
 ghost use Rattle.monitor.specs.Answers.{verdictReply};
 ghost use Rattle.monitor.specs.Promises.{MonitorOpened, MonitorTicked};
-ghost use Rattle.monitor.specs.Steps.{monitorOpeningFor, begunAs, ClosedWithin, HoldsWhere, Held, markAfter};
+ghost use Rattle.monitor.specs.Steps.{monitorOpeningFor, begunAs, ClosedWithin, FoundOf, unjudgedAs, RuledOf, lostUnlessPassed};
+ghost use Rattle.monitor.specs.Steps.{outsideAs, smallestIn, windowLimit, HoldsWhere, Held, markAfter};
 
 // The longest horizon.
 const MAX_HORIZON: usize = 256;
@@ -65,7 +68,24 @@ pub enum Verdict {
 
 pub struct Judgement {
     pub verdict: Verdict,
+    // How near the tick came to the figures as given: the smallest margin of the windows that end there, negative where one is outside,
+    // and the shortest window that has it, which need not be the verdict's. Of `AlreadyFailed` and `BadState` both are 0.
+    pub margin: i64,
+    pub window: usize,
     pub next: Monitor,
+}
+
+// What is found of a tick.
+struct Finding {
+    verdict: Verdict,
+    margin: i64,
+    window: usize,
+}
+
+// The smallest margin of the windows that end at a tick, and the shortest window that has it.
+struct Smallest {
+    margin: i64,
+    window: usize,
 }
 
 impl Monitor {
@@ -95,7 +115,7 @@ impl Monitor {
         let mut ticks = history.ticks;
         let closed_upper = self.closed_upper;
         let closed_lower = self.closed_lower;
-        let verdict = find_verdict(
+        let finding = find(
             horizon,
             &upper,
             &lower,
@@ -106,6 +126,7 @@ impl Monitor {
             self.failed,
             count,
         );
+        let verdict = finding.verdict;
         let held = hold(verdict, &mut ticks, horizon, history.held, count);
         let failed = mark(verdict, self.failed);
         let history = History {
@@ -121,7 +142,14 @@ impl Monitor {
             closed_lower,
             failed,
         };
-        Judgement { verdict, next }
+        let margin = finding.margin;
+        let window = finding.window;
+        Judgement {
+            verdict,
+            margin,
+            window,
+            next,
+        }
     }
 }
 
@@ -173,8 +201,8 @@ fn zero() -> Monitor
     }
 }
 
-// The verdict on the next tick. Question 12, of the closed figures too, comes before the failed mark.
-fn find_verdict(
+// The verdict on the next tick, and its margin. Question 12, of the closed figures too, comes before the failed mark.
+fn find(
     horizon: usize,
     upper: &[u32; MAX_HORIZON],
     lower: &[u32; MAX_HORIZON],
@@ -184,18 +212,18 @@ fn find_verdict(
     closed_lower: &[u32; MAX_HORIZON],
     failed: bool,
     count: u32,
-) -> Verdict
-    ensures { λ r. ⌜ verdictReply r ≡ judging (monitorViewOf (monitorOf (historyOf horizon (now (upper .entry)) (now (lower .entry)) held
-        (now (ticks .entry))) (now («closed_upper» .entry)) (now («closed_lower» .entry)) failed)) count ⌝ }
+) -> Finding
+    ensures { λ r. ⌜ FoundOf (monitorViewOf (monitorOf (historyOf horizon (now (upper .entry)) (now (lower .entry)) held
+        (now (ticks .entry))) (now («closed_upper» .entry)) (now («closed_lower» .entry)) failed)) count r ⌝ }
 {
     let Legality::Legal = history::ask_legality(horizon, upper, lower, held) else {
-        return Verdict::BadState;
+        return unjudged(Verdict::BadState);
     };
     if !closed_within(horizon, closed_upper, closed_lower) {
-        return Verdict::BadState;
+        return unjudged(Verdict::BadState);
     }
     if failed {
-        return Verdict::AlreadyFailed;
+        return unjudged(Verdict::AlreadyFailed);
     }
     let upper_figures: &[u32] = upper;
     let lower_figures: &[u32] = lower;
@@ -212,6 +240,17 @@ fn find_verdict(
     )
 }
 
+// Where no window is judged there is no margin: 0, of no window.
+fn unjudged(verdict: Verdict) -> Finding
+    ensures { λ r. ⌜ r ≡ unjudgedAs verdict ⌝ }
+{
+    Finding {
+        verdict,
+        margin: 0,
+        window: 0,
+    }
+}
+
 // Whether no closed figure up to the horizon is above the limit.
 fn closed_within(
     horizon: usize,
@@ -226,7 +265,8 @@ fn closed_within(
     bounds::within_limit(&upper[..horizon]) & bounds::within_limit(&lower[..horizon])
 }
 
-// Judges by the figures as given; a tick that keeps them is lost where it does not keep the closed ones.
+// Judges by the figures as given; a tick that keeps them is lost where it does not keep the closed ones. The margin tells whether it
+// keeps them, so only where it does not are they gone through again, for the shortest window outside.
 fn rule(
     upper: &[u32],
     lower: &[u32],
@@ -234,22 +274,40 @@ fn rule(
     closed_lower: &[u32],
     ticks: &[u32],
     count: u32,
-) -> Verdict
+) -> Finding
     requires { ⌜ Slices (now upper) (now lower) (now ticks) ⌝ }
     requires { ⌜ Slices (now «closed_upper») (now «closed_lower») (now ticks) ⌝ }
-    ensures { λ r. ⌜ verdictReply r ≡ result (ruled
-        (verdictOn (viewWith (now (upper .entry)) (now (lower .entry)) (now (ticks .entry))) count)
-        (verdictOn (viewWith (now («closed_upper» .entry)) (now («closed_lower» .entry)) (now (ticks .entry))) count)) ⌝ }
+    ensures { λ r. ⌜ RuledOf
+        (viewWith (now (upper .entry)) (now (lower .entry)) (now (ticks .entry)))
+        (viewWith (now («closed_upper» .entry)) (now («closed_lower» .entry)) (now (ticks .entry))) count r ⌝ }
 {
-    let given = judge(upper, lower, ticks, count);
-    let Verdict::Passed = given else {
-        return given;
-    };
-    let closed = judge(closed_upper, closed_lower, ticks, count);
-    let Verdict::Passed = closed else {
-        return Verdict::Lost;
-    };
-    Verdict::Passed
+    let smallest = find_smallest(upper, lower, ticks, count);
+    let margin = smallest.margin;
+    let window = smallest.window;
+    if margin < 0 {
+        let verdict = judge(upper, lower, ticks, count);
+        return Finding {
+            verdict,
+            margin,
+            window,
+        };
+    }
+    let verdict = lost_unless_passed(judge(closed_upper, closed_lower, ticks, count));
+    Finding {
+        verdict,
+        margin,
+        window,
+    }
+}
+
+// The verdict on a tick that keeps the figures as given, from the one by the closed figures.
+fn lost_unless_passed(closed: Verdict) -> Verdict
+    ensures { λ r. ⌜ r ≡ lostUnlessPassed closed ⌝ }
+{
+    match closed {
+        Verdict::Passed => Verdict::Passed,
+        _ => Verdict::Lost,
+    }
 }
 
 // Window after window, the shortest first; `sum` has the new tick and the d before it.
@@ -262,11 +320,8 @@ fn judge(upper: &[u32], lower: &[u32], ticks: &[u32], count: u32) -> Verdict
     let mut sum = count as u64;
     let mut d = 0;
     let verdict = loop {
-        if (upper[d] as u64) < sum {
-            break Verdict::TooMany { window: d + 1 };
-        }
-        if sum < lower[d] as u64 {
-            break Verdict::TooFew { window: d + 1 };
+        if margin_between(upper[d], lower[d], sum) < 0 {
+            break outside(upper[d], sum, d + 1);
         }
         if held <= d {
             break Verdict::Passed;
@@ -275,6 +330,50 @@ fn judge(upper: &[u32], lower: &[u32], ticks: &[u32], count: u32) -> Verdict
         d += 1;
     };
     verdict
+}
+
+// The verdict on a window that is outside its figures. Where they cross it may be so both ways: 'too many' is looked at first.
+fn outside(ceiling: u32, sum: u64, window: usize) -> Verdict
+    ensures { λ r. ⌜ r ≡ outsideAs ceiling sum window ⌝ }
+{
+    if (ceiling as u64) < sum {
+        Verdict::TooMany { window }
+    } else {
+        Verdict::TooFew { window }
+    }
+}
+
+// The smallest margin over the same windows. A later one takes its place only where it is smaller, so the window is the shortest.
+fn find_smallest(upper: &[u32], lower: &[u32], ticks: &[u32], count: u32) -> Smallest
+    requires { ⌜ Slices (now upper) (now lower) (now ticks) ⌝ }
+    ensures { λ r. ⌜ Tightest (pairOf (now (upper .entry)) (now (lower .entry))) (then (now (ticks .entry)) count) (smallestIn r) ⌝ }
+{
+    let held = ticks.len();
+    let mut sum = count as u64;
+    let mut margin = margin_between(upper[0], lower[0], sum);
+    let mut window = 1;
+    let mut d = 0;
+    while d < held {
+        sum += ticks[held - 1 - d] as u64;
+        d += 1;
+        let found = margin_between(upper[d], lower[d], sum);
+        if found < margin {
+            margin = found;
+            window = d + 1;
+        }
+    }
+    Smallest { margin, window }
+}
+
+// The margin of one window: the smaller of ceiling minus sum and sum minus least. It is negative where the sum is outside.
+fn margin_between(ceiling: u32, least: u32, sum: u64) -> i64
+    requires { ⌜ sum ≤ windowLimit ⌝ }
+    ensures { λ r. ⌜ r ≡ marginBetween ceiling least sum ⌝ }
+{
+    let total = sum as i64;
+    let above = ceiling as i64 - total;
+    let below = total - least as i64;
+    if above <= below { above } else { below }
 }
 
 // Puts a count that passed behind the held ticks, one fewer than the horizon at most; else nothing changes. Gives back how many are held.

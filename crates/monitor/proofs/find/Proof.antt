@@ -1,6 +1,6 @@
--- `monitor::find_verdict` meets its contract: question 12, the failed mark and then the windows settle the answer.
+-- `monitor::find` meets its contract: question 12, the failed mark and then the windows settle the answer and the margin.
 -- Assumes nothing.
-use Rattle.laws.proofs.Base.{sym, needs}
+use borrow.Author.Needs.{needs}
 use Rattle.laws.proofs.Tests.{told-yes, told-no}
 use Rattle.history.specs.declared.History.{History}
 use Rattle.history.specs.States.{historyOf, viewOf, Legal}
@@ -9,10 +9,9 @@ use Rattle.history.proofs.Histories.{legal-sizes}
 use Rattle.history.proofs.Slicing.{Arrays, upper-length, lower-length, ticks-length, slices, view-sliced}
 use Rattle.monitor.specs.Monitoring.{MonitorView, monitorOf, monitorViewOf, LegalMonitor}
 use Rattle.monitor.specs.Steps.{ClosedWithin}
-use Rattle.monitor.proofs.Said.{judging-bad, judging-failed}
-use Rattle.monitor.proofs.Ruling.{closed-legal, ruled-answers}
-use Rattle.monitor.proofs.find_verdict.Statement.{statement}
-use Rattle.monitor.proofs.find_verdict.Tie as tie
+use Rattle.monitor.proofs.Ruling.{bad-found, failed-found, closed-legal, ruled-found}
+use Rattle.monitor.proofs.find.Statement.{statement}
+use Rattle.monitor.proofs.find.Tie as tie
 
 -- The history with the figures as given, the one with the closed figures, and the view of the state.
 abbrev given : tie.Start → History
@@ -26,10 +25,11 @@ state s = let a = s .args in monitorViewOf (monitorOf (given s) (a .closed-upper
 
 returns : tie.Need-returns
 returns c =
-    let s = c .before .before .before in
-    let asked = c .before .before .ask-legality in
-    let no = illegal-from (viewOf (given s)) (asked .result) (asked .ensures .answer (s .args .ticks .now)) (c .enum-told2 .given .1) in
-    sym (judging-bad (state s) _ (λ l. no (l .given)))
+    let t = c .before in
+    let s = t .before .before .before in
+    let asked = t .before .before .ask-legality in
+    let no = illegal-from (viewOf (given s)) (asked .result) (asked .ensures .answer (s .args .ticks .now)) (t .enum-told2 .given .1) in
+    bad-found (state s) _ _ (c .unjudged .ensures) (λ l. no (l .given))
 
 -- Where it is answered yes for the figures as given, and for the closed ones.
 abbrev first : tie.After-enum-told → tie.Start
@@ -45,9 +45,11 @@ Within s = ClosedWithin (s .args .horizon) (s .args .closed-upper .now) (s .args
 
 returns-2 : tie.Need-returns-2
 returns-2 c =
-    let asked = c .before .closed-within in
-    let s = first (c .before .before) in
-    sym (judging-bad (state s) _ (λ l. told-no (Within s) (asked .result) (c .if1 .taken) (asked .ensures) (l .bounded)))
+    let t = c .before in
+    let asked = t .before .closed-within in
+    let s = first (t .before .before) in
+    bad-found (state s) _ _ (c .unjudged2 .ensures)
+    (λ l. told-no (Within s) (asked .result) (t .if1 .taken) (asked .ensures) (l .bounded))
 
 abbrev start : tie.Else1 → tie.Start
 start e = first (e .before .before)
@@ -93,21 +95,25 @@ returns-4 : tie.Need-returns-4
 returns-4 c =
     let e = c .before .before .before .before .before .before in
     let s = start (told e) in
-    ruled-answers (state s) (s .args .count) (legal (told e)) (e .before .before .before .before .before .if2 .left) (c .rule .result) _ _
+    ruled-found (state s) (s .args .count) (legal (told e)) (e .before .before .before .before .before .if2 .left) (c .rule .result) _ _
     (view-sliced (given s) (given-arrays e) (legal (told e) .given))
     (view-sliced (closed s) (closed-arrays e) (closed-view-legal e)) (c .rule .ensures)
 
-pub find-verdict-spec : {M : Type 1} → statement M
-find-verdict-spec =
+pub find-spec : {M : Type 1} → statement M
+find-spec =
     tie.close
     (tie.spec
     (λ c κs. search needs)
     (λ c. search needs)
     (λ c. search needs)
+    (λ c κs. search needs)
     returns
     (λ c κs. legal-sizes (given (first c)) (given-legal c) .within)
+    (λ c κs. search needs)
     returns-2
-    (λ c. sym (judging-failed (state (start (c .before))) _ (legal (c .before)) (c .if2 .taken)))
+    (λ c κs. search needs)
+    (λ c. let t = c .before in
+    failed-found (state (start (t .before))) _ _ (c .unjudged3 .ensures) (legal (t .before)) (t .if2 .taken))
     (λ c. let e = c .before in upper-length _ (given-arrays e) (legal (told e) .given))
     (λ c. let e = c .before .before in lower-length _ (given-arrays e) (legal (told e) .given))
     (λ c. let e = c .before .before .before in upper-length _ (closed-arrays e) (closed-view-legal e))

@@ -1,52 +1,78 @@
--- `monitor::rule` meets its contract: the first run of the judge decides, and where it passes the second.
+-- `monitor::rule` meets its contract: where the margin is negative the judge names the window, and else the closed figures decide.
 -- Assumes nothing.
-use borrow.Author.Needs.{needs}
-use Rattle.curves.specs.Ticks.{Verdict}
+use Rattle.laws.proofs.Base.{refl, sym, subst, needs}
+use lib.IntN.{ℤ, pos}
+use mir.Syntax.{w64}
+use mir.Val.{SFits, toZ, ofZ}
+use Rattle.laws.proofs.Signed.{result-read, less-told, not-less-told}
+use Rattle.curves.specs.Ticks.{then}
+use Rattle.curves.specs.Margins.{Margin, Tightest}
+use Rattle.history.specs.States.{View}
 use Rattle.history.specs.Steps.{viewWith}
-use Rattle.monitor.specs.Monitoring.{verdictOn}
-use Rattle.monitor.proofs.Ruling.{ruled-first, ruled-lost, ruled-passed}
+use Rattle.monitor.specs.Steps.{smallestIn}
+use Rattle.monitor.proofs.Ruling.{ruled-outside, ruled-inside}
 use Rattle.monitor.proofs.rule.Statement.{statement}
 use Rattle.monitor.proofs.rule.Tie as tie
 
--- The verdicts of the two runs.
-abbrev given : tie.Start → Verdict
-given s = let a = s .args in verdictOn (viewWith (a .upper .now) (a .lower .now) (a .ticks .now)) (a .count)
+-- The views with the figures as given and with the closed ones.
+abbrev given : tie.Start → View
+given s = let a = s .args in viewWith (a .upper .now) (a .lower .now) (a .ticks .now)
 
-abbrev closed : tie.Start → Verdict
-closed s = let a = s .args in verdictOn (viewWith (a .closed-upper .now) (a .closed-lower .now) (a .ticks .now)) (a .count)
+abbrev closed : tie.Start → View
+closed s = let a = s .args in viewWith (a .closed-upper .now) (a .closed-lower .now) (a .ticks .now)
 
--- The start, from where the first run is over.
-abbrev start : tie.After-judge → tie.Start
-start j = j .before .before .before .before .before .before
+-- The start, seen from where the margin is known; what its bits are read as; and that it is the smallest.
+abbrev start : tie.After-struct-told → tie.Start
+start t = t .before .before .before .before .before .before .before
+
+fits : (t : tie.After-struct-told) → SFits w64 (t .before .find-smallest .result .margin)
+fits t = search needs
+
+abbrev smallest : tie.After-struct-told → Margin
+smallest t = smallestIn (t .before .find-smallest .result)
+
+abbrev IsTightest : tie.After-struct-told → ℤ → Type 0
+IsTightest t z =
+    let s = start t in
+    Tightest (given s .pair) (then (given s .held) (s .args .count)) (record { value = z; window = smallest t .window })
+
+tightest : (t : tie.After-struct-told) → IsTightest t (smallest t .value)
+tightest t = t .before .find-smallest .ensures
+
+read-tightest : (t : tie.After-struct-told) → IsTightest t (toZ w64 (ofZ w64 (smallest t .value)))
+read-tightest t = subst (IsTightest t) (sym (result-read (smallest t .value) _ (fits t) refl)) (tightest t)
 
 returns : tie.Need-returns
 returns c =
-    let j = c .before in
-    ruled-first (j .judge .result) (given (start j)) (closed (start j)) (c .match .keys2) (j .judge .ensures)
+    let t = c .before .before in
+    let s = start t in
+    record {
+      answer =
+          ruled-outside (given s) (closed s) (s .args .count) (smallest t) (tightest t) (c .judge .result)
+          (less-told (smallest t .value) (smallest t .value) (fits t) refl (pos 0) (c .before .if1 .taken)) (c .judge .ensures);
+      margin = read-tightest t;
+    }
 
 returns-2 : tie.Need-returns-2
 returns-2 c =
-    let told = c .before .before in
-    let j = told .before .before in
-    ruled-lost (j .judge .result) (c .before .judge2 .result) (given (start j)) (closed (start j)) (told .enum-told .given .1)
-    (j .judge .ensures) (c .match2 .keys2) (c .before .judge2 .ensures)
-
-returns-3 : tie.Need-returns-3
-returns-3 c =
-    let told = c .before .before .before in
-    let j = told .before .before in
-    let second = c .before .before .judge2 in
-    ruled-passed (j .judge .result) (second .result) (given (start j)) (closed (start j)) (told .enum-told .given .1)
-    (j .judge .ensures) (c .enum-told2 .given .1) (second .ensures)
+    let t = c .before .before .before in
+    let s = start t in
+    let second = c .before .judge2 in
+    record {
+      answer =
+          rw (c .lost-unless-passed .ensures)
+          (ruled-inside (given s) (closed s) (s .args .count) (smallest t) (tightest t) (second .result)
+          (not-less-told (smallest t .value) (smallest t .value) (fits t) refl (pos 0) (c .before .before .if1 .left)) (second .ensures));
+      margin = read-tightest t;
+    }
 
 pub rule-spec : {M : Type 1} → statement M
 rule-spec =
     tie.close
     (tie.spec
-    (λ c κs. c .before .before .before .before .before .pre .0)
-    (λ c. search needs)
+    (λ c κs. search needs)
+    (λ c κs. search needs)
     returns
-    (λ c κs. c .before .before .before .before .before .before .before .before .pre .1)
-    (λ c. search needs)
-    returns-2
-    returns-3)
+    (λ c κs. search needs)
+    (λ c κs. search needs)
+    returns-2)

@@ -1,13 +1,17 @@
--- `monitor::Monitor::tick` meets its promise: the verdict is the one that is found, and the next state follows from it.
--- Assumes nothing.
-use borrow.Author.Needs.{needs}
+-- `monitor::Monitor::tick` meets its promise: the verdict and the margin are those that are found, and the next state follows from the
+-- verdict. Assumes nothing.
+use Rattle.laws.proofs.Base.{refl, ap, _∙_, needs}
+use lib.IntN.{ℤ}
+use mir.Syntax.{w64}
+use mir.Val.{SFits}
+use Rattle.laws.proofs.Signed.{result-read}
 use Rattle.history.proofs.Slicing.{Arrays}
 use Rattle.monitor.proofs.Ruling.{holds-where, next-is}
 use Rattle.monitor.proofs.Monitor.tick.Statement.{statement}
 use Rattle.monitor.proofs.Monitor.tick.Tie as tie
 
--- Where the verdict is found.
-abbrev start : tie.After-find-verdict → tie.Start
+-- The start, seen from where the tick is judged.
+abbrev start : tie.After-find → tie.Start
 start f = f .before .before .before .before .before .before .before .before .before .before .before .before
 
 arrays : (s : tie.Start) → Arrays (s .args .self .history)
@@ -16,18 +20,25 @@ arrays s = record { uppers = search needs; lowers = search needs; held = search 
 hold-requires : tie.Need-hold-requires
 hold-requires c κs =
     let f = c .before in
-    holds-where (start f .args .self) (start f .args .count) (f .find-verdict .result) (arrays (start f)) (f .find-verdict .ensures)
+    holds-where (start f .args .self) (start f .args .count) (f .find .result .verdict) (arrays (start f)) (f .find .ensures .answer)
+
+-- The margin is what its bits are read as.
+fits : (t : tie.After-struct-told) → SFits w64 (t .before .before .before .before .before .find .result .margin)
+fits t = search needs
 
 returns : tie.Need-returns
 returns c =
-    let f = c .before .before .before .before in
-    let found = f .find-verdict in
+    let f = c .before .before .before .before .before in
+    let found = f .find in
     let s = start f in
     record {
-      answer = found .ensures;
+      answer = found .ensures .answer;
+      margin =
+          ap (λ (z : ℤ). record { value = z; window = found .result .window }) (result-read (found .result .margin) _ (fits c) refl)
+          ∙ found .ensures .margin;
       next =
-          next-is (s .args .self) (s .args .count) (arrays s) _ _ (found .result) (c .mark .result) (found .ensures)
-          (c .before .before .hold .ensures) (c .mark .ensures);
+          next-is (s .args .self) (s .args .count) (arrays s) _ _ (found .result .verdict) (c .before .mark .result)
+          (found .ensures .answer) (c .before .before .before .hold .ensures) (c .before .mark .ensures);
     }
 
 pub tick-spec : {M : Type 1} → statement M
