@@ -7,6 +7,7 @@ pub mod Generating
 pub mod Lost
 pub mod Opens
 pub mod NeverRefused
+pub mod Margins
 pub mod Cost
 pub mod Marked
 pub mod ReadBack

@@ -29,6 +29,7 @@ use Rattle.guarantees.specs.Exact.{NothingPassesAfter}
 use Rattle.guarantees.specs.Lost.{MonitorRefusedIffNoStream, AllPassIffExtendable, LostIffNotExtendable, MonitorOpensOnClosure}
 use Rattle.guarantees.specs.Lost.{PassedIffExtendable, OutsideIffNotConforming, LostBeforeHorizon, NeverLostOnClosure}
 use Rattle.guarantees.specs.Lost.{MonitorNeverRefused, PassesIffExtendable}
+use Rattle.guarantees.proofs.Held.{heldOf}
 use Rattle.guarantees.proofs.Rulings.{RightRuling, outside-iff, neither-iff}
 use Rattle.guarantees.proofs.Generating.{sends-iff-neither}
 use Rattle.guarantees.proofs.Monitoring.{NotLost, after, start, legal, keeps-whole, right-of-all, pass-iff, after-passing}
@@ -98,7 +99,10 @@ module _ (p : Pair) (o : Opens p) where
     now-is : now ≡ holding xs
     now-is = after-passing p q yes-p yes-q same (freshMonitor p) [] xs begun es
 
-    now-unfailed : LegalUnfailed now
+    pub now-view : now .view ≡ heldOf p xs
+    now-view = ap (λ (w : MonitorView). w .view) now-is
+
+    pub now-unfailed : LegalUnfailed now
     now-unfailed = rw now-is (record { legal = legal p q yes-p yes-q same xs; mark = refl })
 
     next-right : (r : Ruling) → Answers now x r ↔ RightRuling p q (then xs x) r

@@ -170,4 +170,4 @@ ticks-are-rulings m [] t = refl
 ticks-are-rulings m (t ∷ ts) (a, b) = cc (ticks-are-rulings (t .judgement .next) ts b, monitor-next m (t .count) (t .judgement) a)
 
 pub equal-monitors-agree : EqualMonitorsAgree
-equal-monitors-agree m m′ x r r′ e t t′ = (cc, cc (monitor-next m x r t, monitor-next m′ x r′ t′))
+equal-monitors-agree m m′ x r r′ e t t′ = (cc, cc, cc (monitor-next m x r t, monitor-next m′ x r′ t′))

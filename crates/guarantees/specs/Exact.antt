@@ -18,7 +18,7 @@ use Rattle.monitor.specs.declared.Monitor.{Monitor}
 use Rattle.monitor.specs.declared.Judgement.{Judgement}
 use Rattle.monitor.specs.Monitoring.{MonitorView, monitorViewOf, EqualMonitors, LegalMonitor, Ruling, judged, lost, alreadyFailed, judging}
 use Rattle.monitor.specs.Opening.{monitorOpening, freshMonitor}
-use Rattle.monitor.specs.Answers.{verdictReply}
+use Rattle.monitor.specs.Answers.{verdictReply, marginIn}
 use Rattle.monitor.specs.Promises.{MonitorTicked}
 use Rattle.monitor.specs.Calls.{afterTicks, rulings, Tick, Ticks}
 use Rattle.generator.specs.declared.Generator.{Generator}
@@ -134,11 +134,11 @@ TicksAreRulings =
 abbrev pub CallsAreSendings : Type 0
 CallsAreSendings = (g : Generator) (cs : List Call) → Calls g cs → repliesOf cs ≡ sendings (viewOf (g .history)) (choicesOf cs)
 
--- Equal states get equal answers, and next states that are equal.
+-- Equal states get equal answers, a monitor's with equal margins (request P5), and next states that are equal.
 abbrev pub EqualMonitorsAgree : Type 0
 EqualMonitorsAgree =
     (m m′ : Monitor) (x : ℕ) (r r′ : Judgement) → EqualMonitors m m′ → MonitorTicked m x r → MonitorTicked m′ x r′
-    → (verdictReply (r .verdict) ≡ verdictReply (r′ .verdict)) × EqualMonitors (r .next) (r′ .next)
+    → (verdictReply (r .verdict) ≡ verdictReply (r′ .verdict)) × (marginIn r ≡ marginIn r′) × EqualMonitors (r .next) (r′ .next)
 
 abbrev pub EqualGeneratorsAgree : Type 0
 EqualGeneratorsAgree =

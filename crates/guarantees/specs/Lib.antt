@@ -3,6 +3,7 @@ pub mod Total
 pub mod Exact
 pub mod Lost
 pub mod NeverRefused
+pub mod Margins
 pub mod Cost
 pub mod Marked
 pub mod ReadBack
