@@ -3,7 +3,7 @@ use Rattle.laws.proofs.Base.{ℕ, _-_, _≡_, refl, sym, _∙_, subst, Bool, tr
 use mathlib.Core.Logic.{Iff·trans, Iff·symm}
 use lib.IntN.{pos}
 use lib.Signed.{_<ℤ_, <ℤ-irrefl}
-use Rattle.curves.specs.Pairs.{horizon}
+use Rattle.curves.specs.Pairs.{horizon, upperAt, lowerAt}
 use Rattle.curves.specs.Ticks.{then, tooMany, tooFew}
 use Rattle.curves.specs.Margins.{Margin, Tightest}
 use Rattle.curves.proofs.Asked.{no-refusal}
@@ -23,10 +23,10 @@ use Rattle.guarantees.proofs.Lost.{now-view, now-unfailed}
 
 -- ---- of one window
 pub negative-iff-outside : NegativeIffOutside
-negative-iff-outside p d x = negative-between _ _ x
+negative-iff-outside p d x = negative-between (upperAt p d) (lowerAt p d) x
 
 pub zero-iff-on-limit : ZeroIffOnLimit
-zero-iff-on-limit p d x h = zero-between _ _ x h
+zero-iff-on-limit p d x h = zero-between (upperAt p d) (lowerAt p d) x h
 
 -- ---- of a tick
 pub carries-tightest : CarriesTightest
