@@ -1,10 +1,10 @@
-//! The mutants: one plain implementation with one fault each. Some faults are shown by no call over the boundary, as no state crosses it:
-//! a tick that is held though it was rejected, as a failed monitor answers 'already failed' whatever it holds; the order of 'too many' and
-//! 'too few', as no tick after one that passed is both; by which closed figures a tick is lost once the horizon is filled, or in a state
-//! that no opening made; what is asked of a state; and what a generator does where there is no count, as none that was opened comes to
-//! that. These are told apart on the states that the program `limits` is given, where the mark and the held ticks that come back are
-//! compared too. To judge by the given figures twice is, from outside, never to find a tick lost. Two faults are not among the mutants,
-//! since nothing shows them:
+//! The mutants: one plain implementation with one fault each. Some faults are shown by no call over the boundary, as no state and no
+//! margin crosses it: a tick that is held though it was rejected, as a failed monitor answers 'already failed' whatever it holds; the order
+//! of 'too many' and 'too few', as no tick after one that passed is both; by which closed figures a tick is lost once the horizon is
+//! filled, or in a state that no opening made; what is asked of a state; what a generator does where there is no count, as none that was
+//! opened comes to that; and every margin. These are told apart on the states and the streams that the program `limits` is given, where
+//! the margin is compared too, and of a state the mark and the held ticks that come back. To judge by the given figures twice is, from
+//! outside, never to find a tick lost. Two faults are not among the mutants, since nothing shows them:
 //!
 //! - A difference cut off at 0, in a round. U d and L d are the old figures, which do not cross, so none is below 0 or above the limit.
 //!   For a least it changes nothing, as no old least is below 0. For a ceiling: where U (d + t) - L t is below 0, the new ceiling of t is
@@ -115,6 +115,28 @@ pub enum Fault {
     ClosedNotLimited,
     ClosedLowerNotLimited,
     ClosedPastHorizonLimited,
+    // Margin.
+    MarginLarger,
+    MarginUnsigned,
+    MarginsUnsigned,
+    MarginByUpperOnly,
+    MarginByLowerOnly,
+    MarginCutOff,
+    MarginHalfWidth,
+    MarginInLongest,
+    MarginFromZero,
+    MarginEmptyTicksBefore,
+    MarginWithoutLongest,
+    MarginOfClosed,
+    MarginOfBoth,
+    MarginOfClosedWhereLost,
+    NoMarginWhereLost,
+    NoMarginWherePassed,
+    MarginOfVerdict,
+    MarginNamesVerdict,
+    MarginUpToVerdict,
+    MarginWhereFailed,
+    MarginWithTwelve,
     // Generator.
     SendsZeroForNoCount,
     HoldsForNoCount,
@@ -260,6 +282,27 @@ pub const MUTANTS: &[(Fault, &str)] = &[
         ClosedPastHorizonLimited,
         "lost: closed figures past the horizon held against the limit",
     ),
+    (MarginLarger, "margin: the larger of the two differences"),
+    (MarginUnsigned, "margin: the differences compared unsigned"),
+    (MarginsUnsigned, "margin: windows compared unsigned"),
+    (MarginByUpperOnly, "margin: ceiling minus sum alone"),
+    (MarginByLowerOnly, "margin: sum minus least alone"),
+    (MarginCutOff, "margin: cut off at 0"),
+    (MarginHalfWidth, "margin: in 32 bits"),
+    (MarginInLongest, "margin: the longest window that has it"),
+    (MarginFromZero, "margin: windows named from 0"),
+    (MarginEmptyTicksBefore, "margin: empty ticks before the first"),
+    (MarginWithoutLongest, "margin: the longest judged window left out"),
+    (MarginOfClosed, "margin: of the closed figures"),
+    (MarginOfBoth, "margin: of the given figures and the closed ones"),
+    (MarginOfClosedWhereLost, "margin: of the closed figures where lost"),
+    (NoMarginWhereLost, "margin: 0 where lost"),
+    (NoMarginWherePassed, "margin: 0 where passed"),
+    (MarginOfVerdict, "margin: of the verdict's window"),
+    (MarginNamesVerdict, "margin: the verdict's window named"),
+    (MarginUpToVerdict, "margin: over windows up to the verdict's"),
+    (MarginWhereFailed, "margin: with 'already failed' too"),
+    (MarginWithTwelve, "margin: with 12 too"),
     (SendsZeroForNoCount, "generator: sends 0 where there is no count"),
     (HoldsForNoCount, "generator: a tick held where there is no count"),
     (AlwaysNoCount, "generator: 13 always"),

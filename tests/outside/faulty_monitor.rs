@@ -1,19 +1,36 @@
-//! The monitor with a fault: its opening, its ticks, and its ticks on states built by hand.
+//! The monitor with a fault: its opening, its ticks, and its ticks on states built by hand. Its margin is in `faulty_margins`.
 
 use std::ops::RangeInclusive;
 
-use crate::faults::Fault::*;
+use crate::faults::Fault::{self, *};
 use crate::faulty_closing::{Faulty, Figures};
 use crate::faulty_streams::History;
 use crate::pairs::Pair;
+use crate::runs::{Course, Run};
 use crate::states::{Judged, State};
+use crate::streams::Margin;
 use crate::subject::{ALREADY_FAILED, LOST, PASSED, REFUSED, TOO_FEW, TOO_MANY};
 
 /// A history, the closed figures, and what a failed monitor failed with.
-struct Monitor {
-    history: History,
-    closed: Figures,
+pub struct Monitor {
+    pub history: History,
+    pub closed: Figures,
     failed: u32,
+}
+
+impl Monitor {
+    fn new(given: Figures, closed: Figures, held: Vec<u32>) -> Monitor {
+        let history = History { given, held };
+        let failed = PASSED;
+        Monitor { history, closed, failed }
+    }
+
+    /// On the history of a state that has its sizes. It has not failed.
+    fn of_state(state: &State) -> Monitor {
+        let (given, closed) = (state.given(), state.closed());
+        let (given, closed) = (Figures::new(&given.upper, &given.lower), Figures::new(&closed.upper, &closed.lower));
+        Monitor::new(given, closed, state.stream().to_vec())
+    }
 }
 
 impl Faulty {
@@ -137,6 +154,16 @@ impl Faulty {
         verdict
     }
 
+    /// The same with the margin, which a script does not tell. It is that of the history before the tick.
+    fn whole_tick(&self, monitor: &mut Monitor, count: u32) -> (u32, Margin) {
+        let margin = match monitor.failed {
+            PASSED => self.margin(monitor, count, self.ruling(monitor, count)),
+            _ if self.has(MarginWhereFailed) => self.margin(monitor, count, PASSED),
+            _ => Margin::default(),
+        };
+        (self.monitor_tick(monitor, count), margin)
+    }
+
     /// The closed figures of a monitor that is opened, or the number of the refusal.
     fn closed_at_opening(&self, upper: &[u32], lower: &[u32]) -> Result<Figures, u32> {
         let number = self.opening(upper, lower);
@@ -159,22 +186,33 @@ impl Faulty {
         }
     }
 
+    /// A monitor that is opened, or the number of the refusal.
+    fn opened(&self, upper: &[u32], lower: &[u32]) -> Result<Monitor, u32> {
+        let closed = self.closed_at_opening(upper, lower)?;
+        Ok(Monitor::new(Figures::new(upper, lower), closed, Vec::new()))
+    }
+
     pub fn judge_into(&self, upper: &[u32], lower: &[u32], script: &mut [u32]) -> u32 {
-        let closed = match self.closed_at_opening(upper, lower) {
+        let mut monitor = match self.opened(upper, lower) {
             Err(number) => return self.refuse(number, script),
-            Ok(closed) => closed,
-        };
-        let history = History {
-            given: Figures::new(upper, lower),
-            held: Vec::new(),
-        };
-        let mut monitor = Monitor {
-            history,
-            closed,
-            failed: PASSED,
+            Ok(monitor) => monitor,
         };
         script.iter_mut().for_each(|entry| *entry = self.monitor_tick(&mut monitor, *entry));
         0
+    }
+
+    /// A stream on an opened monitor, with the margins. A refused opening leaves nothing that a margin could be of.
+    pub fn course(&self, run: &Run) -> Course {
+        match self.opened(&run.pair.upper, &run.pair.lower) {
+            Err(opening) => Course {
+                opening,
+                ticks: vec![(REFUSED + 12, Margin::default()); run.counts.len()],
+            },
+            Ok(mut monitor) => Course {
+                opening: 0,
+                ticks: run.counts.iter().map(|&count| self.whole_tick(&mut monitor, count)).collect(),
+            },
+        }
     }
 
     fn closed_over_limit(&self, state: &State) -> bool {
@@ -194,30 +232,28 @@ impl Faulty {
 
     /// A tick on a state built by hand.
     pub fn judge_state(&self, state: &State, count: u32) -> Judged {
-        let stays = |answer: u32| Judged {
-            answer,
-            failed: state.failed,
-            held: None,
+        let stays = |answer: u32, fault: Fault| {
+            let has_margin = self.has(fault) && state.has_sizes();
+            let margin = has_margin.then(|| self.margin(&Monitor::of_state(state), count, PASSED));
+            Judged {
+                answer,
+                margin: margin.unwrap_or_default(),
+                failed: state.failed,
+                held: None,
+            }
         };
         if self.is_bad(state) && !(self.has(FailedBeforeTwelve) && state.failed) {
-            return stays(REFUSED + 12);
+            return stays(REFUSED + 12, MarginWithTwelve);
         }
         if state.failed {
-            return stays(ALREADY_FAILED);
+            return stays(ALREADY_FAILED, MarginWhereFailed);
         }
-        let (given, closed) = (state.given(), state.closed());
-        let mut monitor = Monitor {
-            history: History {
-                given: Figures::new(&given.upper, &given.lower),
-                held: state.stream().to_vec(),
-            },
-            closed: Figures::new(&closed.upper, &closed.lower),
-            failed: PASSED,
-        };
-        let answer = self.monitor_tick(&mut monitor, count);
+        let mut monitor = Monitor::of_state(state);
+        let (answer, margin) = self.whole_tick(&mut monitor, count);
         let added = answer == PASSED || monitor.history.held != state.stream();
         Judged {
             answer,
+            margin,
             failed: monitor.failed != PASSED,
             held: added.then_some(monitor.history.held),
         }

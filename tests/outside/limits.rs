@@ -1,12 +1,15 @@
-//! The lines that the program `limits` has to write: lists at the limits, pairs of many rounds, and states built by hand. Its
-//! numbers are drawn here as they are drawn there; what comes of them is computed by the reference.
+//! The lines that the program `limits` has to write: lists at the limits, pairs of many rounds, states built by hand, and streams on
+//! opened monitors. Its numbers are drawn here as they are drawn there; what comes of them is computed by the reference.
 
+use crate::margins::{sign, Tick};
 use crate::pairs::{self, Pair};
 use crate::reference::Reference;
-use crate::states::{self, digest, drawn, Judged, Sent, State, CASES};
+use crate::runs::{self, Course, Run};
+use crate::states::{self, digest, drawn, is_judged, kind_and_window, Judged, Sent, State, CASES};
 use crate::streams::verdict;
 use crate::subject::{Subject, ALREADY_FAILED, LIMIT, LONGEST_HORIZON, LOST, PASSED, REFUSED};
-use crate::tally::{Tally, BOTH, BUILT, BUILT_LOOSER, BUILT_REJECTED, BUILT_SENT, BUILT_TWELVE};
+use crate::tally::{Tally, BOTH, BUILT, BUILT_LOOSER, BUILT_MARGIN, BUILT_REJECTED, BUILT_SENT, BUILT_TWELVE};
+use crate::tally::{RUN, RUN_MARGIN, RUN_TICK};
 
 /// As the run prints it.
 pub const NAME: &str = "lines of limits";
@@ -66,7 +69,9 @@ fn lines() -> Vec<String> {
         rounds_line(&nine.upper, &nine.lower),
     ];
     let stuck = format!("stuck {}", states::stuck().sent_line(0));
-    lists.chain(longest).chain([stuck]).chain((1..=CASES).map(state_line)).collect()
+    let states = (1..=CASES).map(state_line);
+    let runs = (0..=runs::CASES).map(runs::line);
+    lists.chain(longest).chain([stuck]).chain(states).chain(runs).collect()
 }
 
 /// Whether the tick is outside both ways, so that the order of comparing matters: in one window, or in different ones. In a script it
@@ -95,7 +100,7 @@ fn looser_somewhere(closed: &Pair, given: &Pair) -> bool {
 /// What came up in one state.
 fn note(state: &State, count: u32, tally: &mut Tally) {
     let answer = state.judged(count).answer;
-    tally.note(BUILT, if answer < REFUSED { answer / 1_000 } else { answer - REFUSED });
+    tally.note(BUILT, kind_and_window(answer).0);
     tally.note(BUILT_SENT, state.sent(count).answer.saturating_sub(REFUSED));
     if !state.has_sizes() {
         tally.note(BUILT_TWELVE, 0);
@@ -114,6 +119,58 @@ fn note(state: &State, count: u32, tally: &mut Tally) {
     }
 }
 
+/// One state: what came up, and what its margin says of other counts.
+fn check_state(state: &State, count: u32, tally: &mut Tally) -> Result<(), String> {
+    note(state, count, tally);
+    let Judged { answer, margin, .. } = state.judged(count);
+    if !is_judged(answer) {
+        return Ok(());
+    }
+    let tick = Tick {
+        given: &state.given(),
+        closed: &state.closed(),
+        stream: &state.stream_with(count),
+        answer,
+        margin,
+    };
+    tally.note(BUILT_MARGIN, sign(margin.smallest));
+    tick.note(tally);
+    tick.check()
+}
+
+/// The same of a run, tick by tick.
+fn check_run(run: &Run, tally: &mut Tally) -> Result<(), String> {
+    let Course { opening, ticks } = run.course();
+    tally.note(RUN, opening);
+    let closed = pairs::closed(&run.pair);
+    for (place, &(answer, margin)) in ticks.iter().enumerate() {
+        tally.note(RUN_TICK, kind_and_window(answer).0);
+        if !is_judged(answer) {
+            continue;
+        }
+        let tick = Tick {
+            given: &run.pair,
+            closed: &closed,
+            stream: &run.counts[..=place],
+            answer,
+            margin,
+        };
+        tally.note(RUN_MARGIN, sign(margin.smallest));
+        tick.note(tally);
+        tick.check()?;
+    }
+    Ok(())
+}
+
+fn check_all(tally: &mut Tally) -> Result<(), String> {
+    runs::check_example()?;
+    for case in 1..=CASES {
+        let (state, count) = drawn(case);
+        check_state(&state, count, tally)?;
+    }
+    (0..=runs::CASES).try_for_each(|case| check_run(&runs::drawn(case), tally))
+}
+
 /// The lines that are stored for the program, against those computed. Gives back how many there are.
 pub fn compare(stored: &str, tally: &mut Tally) -> Result<usize, String> {
     let text = std::fs::read_to_string(stored).map_err(|error| format!("{stored}: {error}"))?;
@@ -124,20 +181,30 @@ pub fn compare(stored: &str, tally: &mut Tally) -> Result<usize, String> {
             return Err(format!("{stored}, line {}:\n  expected {line}\n  found    {found}", place + 1));
         }
     }
-    for case in 1..=CASES {
-        let (state, count) = drawn(case);
-        note(&state, count, tally);
-    }
+    check_all(tally)?;
     match text.lines().count() == expected.len() {
         true => Ok(expected.len()),
         false => Err(format!("{stored}: more than the {} lines expected", expected.len())),
     }
 }
 
-/// The first state on which a monitor's tick or a generator's comes to something else than it must.
-pub fn told_apart(judge: impl Fn(&State, u32) -> Judged, send: impl Fn(&State, u32) -> Sent) -> Option<u64> {
-    (1..=CASES).find(|&case| {
+/// The first state on which a monitor's tick or a generator's comes to something else than it must, or else the first such run.
+pub fn told_apart(
+    judge: impl Fn(&State, u32) -> Judged,
+    send: impl Fn(&State, u32) -> Sent,
+    course: impl Fn(&Run) -> Course,
+) -> Option<(&'static str, u64)> {
+    let by_state = (1..=CASES).find(|&case| {
         let (state, number) = drawn(case);
         judge(&state, number) != state.judged(number) || send(&state, number) != state.sent(number)
-    })
+    });
+    let by_run = || {
+        (0..=runs::CASES).find(|&case| {
+            let run = runs::drawn(case);
+            course(&run) != run.course()
+        })
+    };
+    by_state
+        .map(|case| ("states of limits", case))
+        .or_else(|| by_run().map(|case| ("runs of limits", case)))
 }

@@ -64,11 +64,11 @@ fn catch(fault: Fault, seed: u64) -> Caught {
     }
     if caught.first.is_none() {
         let subject = Faulty { fault };
-        let told = limits::told_apart(
+        caught.first = limits::told_apart(
             |state, count| subject.judge_state(state, count),
             |state, choice| subject.send_state(state, choice),
+            |run| subject.course(run),
         );
-        caught.first = told.map(|case| (limits::NAME, case));
     }
     caught
 }

@@ -2,7 +2,7 @@
 //! stand in a state: sizes and figures that are refused, and closed figures that have nothing to do with those as given.
 
 use crate::pairs::Pair;
-use crate::streams::{chosen, range, ruling};
+use crate::streams::{chosen, margin, range, ruling, Margin};
 use crate::subject::{ALREADY_FAILED, LIMIT, LONGEST_HORIZON, NO_COUNT, PASSED, REFUSED};
 
 pub const CASES: u64 = 400;
@@ -14,7 +14,7 @@ fn scramble(x: u64) -> u64 {
 }
 
 /// The k-th number of a case, below `end`.
-fn draw(case: u64, k: u64, end: u64) -> u64 {
+pub fn draw(case: u64, k: u64, end: u64) -> u64 {
     scramble(scramble(scramble(case ^ (k << 20) ^ 88_172_645_463_325_252))) % end
 }
 
@@ -98,6 +98,7 @@ pub fn stuck() -> State {
 pub struct Judged {
     /// As an entry of a script.
     pub answer: u32,
+    pub margin: Margin,
     pub failed: bool,
     /// The ticks that are held then, or nothing where the state comes back as it was, but for the mark.
     pub held: Option<Vec<u32>>,
@@ -112,6 +113,25 @@ pub struct Sent {
 
 pub fn digest(numbers: &[u32]) -> u64 {
     numbers.iter().fold(1, |sum, &number| (sum * 31 + u64::from(number)) % (1 << 31))
+}
+
+/// The kind of a monitor's answer, 0 to 4 for a verdict or the number of a refusal, and the window that it names.
+pub fn kind_and_window(answer: u32) -> (u32, u32) {
+    match answer {
+        REFUSED.. => (answer - REFUSED, 0),
+        _ => (answer / 1_000, answer % 1_000),
+    }
+}
+
+/// Whether the windows were looked at for an answer: not where the monitor had failed before, nor for a refusal.
+pub fn is_judged(answer: u32) -> bool {
+    answer != ALREADY_FAILED && answer < REFUSED
+}
+
+/// A tick's answer as the program `limits` writes it: the kind and the window of the verdict, the margin and its window.
+pub fn answer_line(answer: u32, margin: Margin) -> String {
+    let (kind, window) = kind_and_window(answer);
+    format!("{kind} {window} {} {}", margin.smallest, margin.window)
 }
 
 fn digests(pair: &Pair) -> String {
@@ -157,19 +177,26 @@ impl State {
     }
 
     pub fn judged(&self, count: u32) -> Judged {
-        let answered = |answer: u32, failed: bool| Judged {
+        let unjudged = |answer: u32| Judged {
             answer,
-            failed,
-            held: (answer == PASSED).then(|| self.held_with(count)),
+            margin: Margin::default(),
+            failed: self.failed,
+            held: None,
         };
         if !self.has_sizes() || self.given().over_limit() || self.closed().over_limit() {
-            return answered(REFUSED + 12, self.failed);
+            return unjudged(REFUSED + 12);
         }
         if self.failed {
-            return answered(ALREADY_FAILED, true);
+            return unjudged(ALREADY_FAILED);
         }
-        let answer = ruling(&self.given(), &self.closed(), &self.stream_with(count));
-        answered(answer, answer != PASSED)
+        let (given, stream) = (self.given(), self.stream_with(count));
+        let answer = ruling(&given, &self.closed(), &stream);
+        Judged {
+            answer,
+            margin: margin(&given, &stream),
+            failed: answer != PASSED,
+            held: (answer == PASSED).then(|| self.held_with(count)),
+        }
     }
 
     /// The history that comes back: what a view has of it where a tick was added, else every entry.
@@ -181,16 +208,17 @@ impl State {
         format!("{} {length} {} {}", self.horizon, digests(&pair), digest(&ticks))
     }
 
-    /// The kind of the verdict and its window, the mark, the history, and the closed figures.
+    /// What is answered, the mark, the history, and the closed figures.
     pub fn judged_line(&self, count: u32) -> String {
-        let Judged { answer, failed, held } = self.judged(count);
-        let (kind, window) = match answer {
-            REFUSED.. => (answer - REFUSED, 0),
-            _ => (answer / 1_000, answer % 1_000),
+        let judged = self.judged(count);
+        let closed = if judged.held.is_some() {
+            self.closed()
+        } else {
+            self.closed.clone()
         };
-        let closed = if held.is_some() { self.closed() } else { self.closed.clone() };
-        let history = self.history_line(held);
-        format!("{kind} {window} {} {history} {}", u8::from(failed), digests(&closed))
+        let answered = answer_line(judged.answer, judged.margin);
+        let history = self.history_line(judged.held);
+        format!("{answered} {} {history} {}", u8::from(judged.failed), digests(&closed))
     }
 
     fn range(&self) -> Option<(u32, u32)> {

@@ -30,6 +30,29 @@ pub fn verdict(upper: &[u32], lower: &[u32], stream: &[u32]) -> u32 {
     PASSED
 }
 
+/// How near a tick comes to the figures: the smallest margin of the windows that end there, and the shortest window that has it. Where
+/// none is judged both are 0.
+#[derive(Clone, Copy, Default, PartialEq)]
+pub struct Margin {
+    pub smallest: i64,
+    pub window: u32,
+}
+
+/// The margin of the window of so many ticks that ends the stream: the smaller of ceiling minus sum and sum minus least.
+pub fn window_margin(pair: &Pair, stream: &[u32], window: usize) -> i64 {
+    let total = sum(&stream[stream.len() - window..]) as i64;
+    let most = i64::from(pair.upper[window - 1]) - total;
+    most.min(total - i64::from(pair.lower[window - 1]))
+}
+
+/// The margin of the last tick of the stream. Of the windows that have the same one, the shortest is the least in the order of pairs.
+pub fn margin(pair: &Pair, stream: &[u32]) -> Margin {
+    (1..=pair.horizon().min(stream.len()))
+        .map(|window| (window_margin(pair, stream, window), window as u32))
+        .min()
+        .map_or(Margin::default(), |(smallest, window)| Margin { smallest, window })
+}
+
 /// A monitor's verdict on the last tick of the stream. The closed figures have a say only where those as given pass it.
 pub fn ruling(given: &Pair, closed: &Pair, stream: &[u32]) -> u32 {
     match verdict(&given.upper, &given.lower, stream) {

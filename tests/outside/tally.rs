@@ -37,6 +37,18 @@ pub const BUILT_TWELVE: &str = "12 for (0 sizes, 1 given figures, 2 closed ones 
 pub const BUILT_REJECTED: &str = "many or few by hand (0 closed kept, 1 broken too)";
 pub const BUILT_LOOSER: &str = "looser closed figures by hand (0 passed, 4 lost)";
 pub const BUILT_SENT: &str = "generators by hand (0 sent, 12 or 13 refused)";
+pub const BUILT_MARGIN: &str = "margins by hand (0 negative, 1 zero, 2 positive)";
+pub const RUN: &str = "runs of limits (0 opened, 5 refused)";
+pub const RUN_TICK: &str = "ticks of runs (0 to 4 verdicts, 12 refused)";
+pub const RUN_MARGIN: &str = "margins in runs (0 negative, 1 zero, 2 positive)";
+pub const MARGIN_WINDOW: &str = "a margin's window";
+pub const MARGIN_BY: &str = "a margin, by (1 the ceiling, 2 the least, 3 both)";
+pub const MARGIN_SHARED: &str = "a margin, had by (1 one window, 2 more)";
+pub const MARGIN_REJECTED: &str = "many or few, margin (0 in that window, 1 in a longer)";
+pub const MARGIN_LOST: &str = "lost, margin (1 zero, 2 positive)";
+pub const MARGIN_CROSSING: &str = "margin of crossing figures, outside (1 way, 2 ways)";
+pub const MARGIN_CLOSED: &str = "closed figures' margin (0 smaller, 1 equal, 2 larger)";
+pub const MARGIN_PAST: &str = "past a margin outside (0 not, 1 more, 2 fewer, 3 both)";
 pub const AT_LIMIT: &str = "opening a generator, a figure at the limit (0, 15)";
 pub const NOT_OWN: &str = "15 (1 ceilings, 2 leasts, 3 both, 4 crossing, 5 none)";
 pub const NOT_OWN_ROUNDS: &str = "15, and closing takes so many rounds";
@@ -92,6 +104,18 @@ const DUE: &[(&str, &[u32])] = &[
     (BUILT_LOOSER, &[0, 4]),
     (BOTH, &[0, 1]),
     (BUILT_SENT, &[0, 12, 13]),
+    (BUILT_MARGIN, &[0, 1, 2]),
+    (RUN, &[0, 5]),
+    (RUN_TICK, &[0, 1, 2, 3, 4, 12]),
+    (RUN_MARGIN, &[0, 1, 2]),
+    (MARGIN_WINDOW, &[1, 2, 3, 4, 5, 6, 7, 8]),
+    (MARGIN_BY, &[1, 2, 3]),
+    (MARGIN_SHARED, &[1, 2]),
+    (MARGIN_REJECTED, &[0, 1]),
+    (MARGIN_LOST, &[1, 2]),
+    (MARGIN_CROSSING, &[1, 2]),
+    (MARGIN_CLOSED, &[0, 1, 2]),
+    (MARGIN_PAST, &[0, 1, 2, 3]),
     (AT_LIMIT, &[0, 15]),
     (NOT_OWN, &[1, 2, 3, 4, 5]),
     (NOT_OWN_ROUNDS, &[1, 2, 3, 4, 5]),

@@ -8,6 +8,17 @@ pub(crate) fn show(n: u64) {
     io::print_decimal(STDOUT_FILENO, n);
 }
 
+// The same, with a sign right before the digits where it is negative. The least i64 has no opposite: so 1 is added before the sign is
+// turned, and again after it.
+pub(crate) fn show_signed(n: i64) {
+    if n < 0 {
+        io::write_all(STDOUT_FILENO, b" -");
+        io::print_decimal(STDOUT_FILENO, (0 - (n + 1)) as u64 + 1);
+    } else {
+        show(n as u64);
+    }
+}
+
 pub(crate) fn show_two(m: u64, n: u64) {
     show(m);
     show(n);

@@ -152,7 +152,7 @@ fn draw_count(case: u64, k: u64, odd: u64, end: u64) -> u32
     numbers::draw(case, k ^ 8_192, end) as u32
 }
 
-// A tick of the monitor: the verdict, and the state that comes back.
+// A tick of the monitor: what it answers, and the state that comes back.
 fn try_monitor(monitor: Monitor, count: u32) {
     let judgement = monitor.tick(count);
     let verdict = judgement.verdict;
@@ -161,14 +161,21 @@ fn try_monitor(monitor: Monitor, count: u32) {
     let history = next.history;
     let closed_upper = next.closed_upper;
     let closed_lower = next.closed_lower;
-    show_verdict(verdict);
+    show_answer(verdict, judgement.margin, judgement.window);
     numbers::show(next.failed as u64);
     show_history(history, added);
     show_entries(closed_upper, history.horizon, added);
     show_entries(closed_lower, history.horizon, added);
 }
 
-// Its kind, and the window that it names.
+// A tick's answer: the verdict, the margin, and the window that has it.
+pub(crate) fn show_answer(verdict: Verdict, margin: i64, window: usize) {
+    show_verdict(verdict);
+    numbers::show_signed(margin);
+    numbers::show(window as u64);
+}
+
+// The kind of a verdict, and the window that it names.
 fn show_verdict(verdict: Verdict) {
     match verdict {
         Verdict::Passed => numbers::show_two(0, 0),

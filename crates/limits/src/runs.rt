@@ -1,0 +1,111 @@
+// Streams on opened monitors: what each tick is answered, the margin too, while the held ticks fill up and once the oldest are let go.
+use crate::numbers;
+use crate::states;
+use libc::STDOUT_FILENO;
+use monitor::Monitor;
+use monitor::MonitorOpening;
+ghost use mathlib.Core.Path.{_≡_};
+ghost use lib.ListN.{length};
+
+const CASES: u64 = 120;
+
+const LONGEST: usize = 8;
+
+const TICKS: usize = 12;
+
+pub(crate) fn try_all() {
+    try_example();
+    let mut case = 1;
+    while case <= CASES {
+        try_drawn(case);
+        case += 1;
+    }
+}
+
+// The README's example: the margins are 5, 4, 3, 1, 0 and -6, and the last tick has too many.
+fn try_example() {
+    let upper = [10, 16, 20];
+    let lower = [0, 2, 4];
+    let counts = [5, 6, 6, 7, 7, 12];
+    try_run(0, &upper, &lower, &counts);
+}
+
+// Some streams pass whole, others are rejected early or late, and some pairs are refused. Figures and counts are drawn below odd numbers:
+// a draw's last bits, and so its remainder by a power of 2, hardly depend on its place.
+fn try_drawn(case: u64) {
+    let horizon = 1 + numbers::draw(case, 20, 8) as usize;
+    let upper = draw_ceilings(case);
+    let lower = draw_leasts(case);
+    let counts = draw_ticks(case);
+    try_run(case, &upper[..horizon], &lower[..horizon], &counts);
+}
+
+fn draw_ceilings(case: u64) -> [u32; LONGEST]
+    ensures { λ r. ⌜ length r ≡ 8 ⌝ }
+{
+    let mut upper = [0; LONGEST];
+    let mut i = 0;
+    while i < LONGEST {
+        upper[i] = 2 * i as u32 + 4 + numbers::draw(case, 6_144 ^ (i as u64), 9) as u32;
+        i += 1;
+    }
+    upper
+}
+
+fn draw_leasts(case: u64) -> [u32; LONGEST]
+    ensures { λ r. ⌜ length r ≡ 8 ⌝ }
+{
+    let mut lower = [0; LONGEST];
+    let mut i = 0;
+    while i < LONGEST {
+        lower[i] = i as u32 + numbers::draw(case, 7_168 ^ (i as u64), 2 * i as u64 + 1) as u32;
+        i += 1;
+    }
+    lower
+}
+
+fn draw_ticks(case: u64) -> [u32; TICKS] {
+    let mut counts = [0; TICKS];
+    let mut i = 0;
+    while i < TICKS {
+        counts[i] = 1 + numbers::draw(case, 14_336 ^ (i as u64), 5) as u32;
+        i += 1;
+    }
+    counts
+}
+
+// The number of the case, the horizon, what opening answers, and each tick's answer. A refused opening hands out a state too: its ticks
+// are refused with 12.
+fn try_run(case: u64, upper: &[u32], lower: &[u32], counts: &[u32]) {
+    let opened = Monitor::open(upper, lower);
+    let opening = opened.opening;
+    let state = opened.state;
+    io::write_all(STDOUT_FILENO, b"run");
+    numbers::show_two(case, upper.len() as u64);
+    show_opening(opening);
+    try_ticks(state, counts);
+    io::write_all(STDOUT_FILENO, b"\n");
+}
+
+fn show_opening(opening: MonitorOpening) {
+    match opening {
+        MonitorOpening::Opened => numbers::show(0),
+        MonitorOpening::UpperLength => numbers::show(1),
+        MonitorOpening::LowerLength => numbers::show(2),
+        MonitorOpening::FigureLimit => numbers::show(4),
+        MonitorOpening::NoClosure => numbers::show(5),
+    }
+}
+
+// Each tick by the state that the one before it left.
+fn try_ticks(opened: Monitor, counts: &[u32]) {
+    let mut monitor = opened;
+    let mut i = 0;
+    while i < counts.len() {
+        let judgement = monitor.tick(counts[i]);
+        let verdict = judgement.verdict;
+        states::show_answer(verdict, judgement.margin, judgement.window);
+        monitor = judgement.next;
+        i += 1;
+    }
+}
