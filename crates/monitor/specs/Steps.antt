@@ -21,6 +21,7 @@ use Rattle.monitor.specs.declared.MonitorOpening.{MonitorOpening}
 use Rattle.monitor.specs.declared.MonitorOpening.the-variants as opening
 use Rattle.monitor.specs.declared.Verdict.{Verdict}
 use Rattle.monitor.specs.declared.Verdict.the-variants.{Passed, TooMany, TooFew, Lost, AlreadyFailed, BadState}
+use Rattle.monitor.specs.declared.Judgement.{Judgement}
 use Rattle.monitor.specs.declared.Finding.{Finding}
 use Rattle.monitor.specs.declared.Smallest.{Smallest}
 use Rattle.monitor.specs.Monitoring.{MonitorView, monitorOf, verdictOn, ruled, judging}
@@ -65,6 +66,10 @@ unjudgedAs v = record { verdict = v; margin = pos 0; window = 0 }
 pub record FoundOf (w : MonitorView) (x : ℕ) (r : Finding) : Type 0 where
   pub answer : verdictReply (r .verdict) ≡ judging w x
   pub margin : marginFound r ≡ carried w x
+
+-- With the next state.
+abbrev pub judgementOf : Finding → Monitor → Judgement
+judgementOf r next = record { verdict = r .verdict; margin = r .margin; window = r .window; next = next }
 
 -- By a view with the figures as given, and one with the closed figures.
 pub record RuledOf (v v′ : View) (x : ℕ) (r : Finding) : Type 0 where

@@ -18,7 +18,7 @@ ghost use Rattle.monitor.specs.Opening.{zeroMonitor};
 ghost use Rattle.monitor.specs.Answers.{verdictReply};
 ghost use Rattle.monitor.specs.Promises.{MonitorOpened, MonitorTicked};
 ghost use Rattle.monitor.specs.Steps.{monitorOpeningFor, begunAs, ClosedWithin, FoundOf, unjudgedAs, RuledOf, lostUnlessPassed};
-ghost use Rattle.monitor.specs.Steps.{outsideAs, smallestIn, windowLimit, HoldsWhere, Held, markAfter};
+ghost use Rattle.monitor.specs.Steps.{judgementOf, outsideAs, smallestIn, windowLimit, HoldsWhere, Held, markAfter};
 
 // The longest horizon.
 const MAX_HORIZON: usize = 256;
@@ -142,14 +142,20 @@ impl Monitor {
             closed_lower,
             failed,
         };
-        let margin = finding.margin;
-        let window = finding.window;
-        Judgement {
-            verdict,
-            margin,
-            window,
-            next,
-        }
+        conclude(finding, next)
+    }
+}
+
+// What is found of a tick, with the next state.
+fn conclude(finding: Finding, next: Monitor) -> Judgement
+    ensures { λ r. ⌜ r ≡ judgementOf finding next ⌝ }
+{
+    let verdict = finding.verdict;
+    Judgement {
+        verdict,
+        margin: finding.margin,
+        window: finding.window,
+        next,
     }
 }
 

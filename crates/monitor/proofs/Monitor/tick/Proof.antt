@@ -1,10 +1,6 @@
 -- `monitor::Monitor::tick` meets its promise: the verdict and the margin are those that are found, and the next state follows from the
 -- verdict. Assumes nothing.
-use Rattle.laws.proofs.Base.{refl, ap, _∙_, needs}
-use lib.IntN.{ℤ}
-use mir.Syntax.{w64}
-use mir.Val.{SFits}
-use Rattle.laws.proofs.Signed.{result-read}
+use borrow.Author.Needs.{needs}
 use Rattle.history.proofs.Slicing.{Arrays}
 use Rattle.monitor.proofs.Ruling.{holds-where, next-is}
 use Rattle.monitor.proofs.Monitor.tick.Statement.{statement}
@@ -22,24 +18,18 @@ hold-requires c κs =
     let f = c .before in
     holds-where (start f .args .self) (start f .args .count) (f .find .result .verdict) (arrays (start f)) (f .find .ensures .answer)
 
--- The margin is what its bits are read as.
-fits : (t : tie.After-struct-told) → SFits w64 (t .before .before .before .before .before .find .result .margin)
-fits t = search needs
-
 returns : tie.Need-returns
 returns c =
     let f = c .before .before .before .before .before in
     let found = f .find in
     let s = start f in
-    record {
+    rw (c .conclude .ensures) (record {
       answer = found .ensures .answer;
-      margin =
-          ap (λ (z : ℤ). record { value = z; window = found .result .window }) (result-read (found .result .margin) _ (fits c) refl)
-          ∙ found .ensures .margin;
+      margin = found .ensures .margin;
       next =
           next-is (s .args .self) (s .args .count) (arrays s) _ _ (found .result .verdict) (c .before .mark .result)
           (found .ensures .answer) (c .before .before .before .hold .ensures) (c .before .mark .ensures);
-    }
+    })
 
 pub tick-spec : {M : Type 1} → statement M
 tick-spec =
@@ -48,5 +38,6 @@ tick-spec =
     (λ c κs. search needs)
     (λ c. search needs)
     hold-requires
+    (λ c κs. search needs)
     (λ c κs. search needs)
     returns)
