@@ -59,6 +59,10 @@ marginFound r = record { value = r .margin; window = r .window }
 abbrev pub smallestIn : Smallest → Margin
 smallestIn r = record { value = r .margin; window = r .window }
 
+-- A verdict beside the smallest margin.
+abbrev pub findingOf : Verdict → Smallest → Finding
+findingOf v m = record { verdict = v; margin = m .margin; window = m .window }
+
 -- Where no window is judged.
 abbrev pub unjudgedAs : Verdict → Finding
 unjudgedAs v = record { verdict = v; margin = pos 0; window = 0 }

@@ -17,7 +17,7 @@ ghost use Rattle.monitor.specs.Monitoring.{monitorOf, monitorViewOf, jud
 ghost use Rattle.monitor.specs.Opening.{zeroMonitor};
 ghost use Rattle.monitor.specs.Answers.{verdictReply};
 ghost use Rattle.monitor.specs.Promises.{MonitorOpened, MonitorTicked};
-ghost use Rattle.monitor.specs.Steps.{monitorOpeningFor, begunAs, ClosedWithin, FoundOf, unjudgedAs, RuledOf, lostUnlessPassed};
+ghost use Rattle.monitor.specs.Steps.{monitorOpeningFor, begunAs, ClosedWithin, FoundOf, unjudgedAs, RuledOf, findingOf, lostUnlessPassed};
 ghost use Rattle.monitor.specs.Steps.{judgementOf, outsideAs, smallestIn, windowLimit, HoldsWhere, Held, markAfter};
 
 // The longest horizon.
@@ -288,21 +288,23 @@ fn rule(
         (viewWith (now («closed_upper» .entry)) (now («closed_lower» .entry)) (now (ticks .entry))) count r ⌝ }
 {
     let smallest = find_smallest(upper, lower, ticks, count);
-    let margin = smallest.margin;
-    let window = smallest.window;
-    if margin < 0 {
-        let verdict = judge(upper, lower, ticks, count);
-        return Finding {
-            verdict,
-            margin,
-            window,
-        };
+    if smallest.margin < 0 {
+        return with_margin(judge(upper, lower, ticks, count), smallest);
     }
-    let verdict = lost_unless_passed(judge(closed_upper, closed_lower, ticks, count));
+    with_margin(
+        lost_unless_passed(judge(closed_upper, closed_lower, ticks, count)),
+        smallest,
+    )
+}
+
+// A verdict beside the smallest margin.
+fn with_margin(verdict: Verdict, smallest: Smallest) -> Finding
+    ensures { λ r. ⌜ r ≡ findingOf verdict smallest ⌝ }
+{
     Finding {
         verdict,
-        margin,
-        window,
+        margin: smallest.margin,
+        window: smallest.window,
     }
 }
 
