@@ -17,8 +17,8 @@ ghost use Rattle.monitor.specs.Monitoring.{monitorOf, monitorViewOf, jud
 ghost use Rattle.monitor.specs.Opening.{zeroMonitor};
 ghost use Rattle.monitor.specs.Answers.{verdictReply};
 ghost use Rattle.monitor.specs.Promises.{MonitorOpened, MonitorTicked};
-ghost use Rattle.monitor.specs.Steps.{monitorOpeningFor, begunAs, ClosedWithin, FoundOf, unjudgedAs, RuledOf, findingOf, lostUnlessPassed};
-ghost use Rattle.monitor.specs.Steps.{judgementOf, outsideAs, smallestIn, windowLimit, HoldsWhere, Held, markAfter};
+ghost use Rattle.monitor.specs.Steps.{monitorOpeningFor, begunAs, judgementOf, FoundOf, unjudgedAs, ClosedWithin, RuledOf};
+ghost use Rattle.monitor.specs.Steps.{findingOf, lostUnlessPassed, outsideAs, smallestIn, windowLimit, HoldsWhere, Held, markAfter};
 
 // The longest horizon.
 const MAX_HORIZON: usize = 256;
