@@ -36,14 +36,15 @@ pub fn drawn(case: u64) -> Run {
         };
     }
     let horizon = 1 + draw(case, 20, 8);
-    let ceiling = |i: u64| 2 * i + 4 + draw(case, 6_144 ^ i, 9);
-    let least = |i: u64| i + draw(case, 7_168 ^ i, 2 * i + 1);
+    let list = |length: u64, k: u64, first: u64, step: u64, choices: u64| -> Vec<u32> {
+        (0..length).map(|i| (first + i * step + draw(case, k ^ i, choices)) as u32).collect()
+    };
     Run {
         pair: Pair {
-            upper: (0..horizon).map(|i| ceiling(i) as u32).collect(),
-            lower: (0..horizon).map(|i| least(i) as u32).collect(),
+            upper: list(horizon, 6_144, 4, 2, 9),
+            lower: list(horizon, 7_168, 0, 1, 5),
         },
-        counts: (0..TICKS).map(|i| 1 + draw(case, 14_336 ^ i, 5) as u32).collect(),
+        counts: list(TICKS, 14_336, 1, 0, 5),
     }
 }
 

@@ -4,12 +4,11 @@ use crate::states;
 use libc::STDOUT_FILENO;
 use monitor::Monitor;
 use monitor::MonitorOpening;
+ghost use Prim.Native.Nat.{_≤_};
 ghost use mathlib.Core.Path.{_≡_};
 ghost use lib.ListN.{length};
 
 const CASES: u64 = 120;
-
-const LONGEST: usize = 8;
 
 const TICKS: usize = 12;
 
@@ -30,48 +29,28 @@ fn try_example() {
     try_run(0, &upper, &lower, &counts);
 }
 
-// Some streams pass whole, others are rejected early or late, and some pairs are refused. Figures and counts are drawn below odd numbers:
-// a draw's last bits, and so its remainder by a power of 2, hardly depend on its place.
+// Some streams pass whole, others are rejected early or late, and some pairs are refused.
 fn try_drawn(case: u64) {
     let horizon = 1 + numbers::draw(case, 20, 8) as usize;
-    let upper = draw_ceilings(case);
-    let lower = draw_leasts(case);
-    let counts = draw_ticks(case);
+    let upper = draw_list(case, 6_144, 4, 2, 9);
+    let lower = draw_list(case, 7_168, 0, 1, 5);
+    let counts = draw_list(case, 14_336, 1, 0, 5);
     try_run(case, &upper[..horizon], &lower[..horizon], &counts);
 }
 
-fn draw_ceilings(case: u64) -> [u32; LONGEST]
-    ensures { λ r. ⌜ length r ≡ 8 ⌝ }
+// Figures or counts: entry i is one of `choices` numbers from `first + i * step` on. That is best odd: a draw's last bits, and so its
+// remainder by a power of 2, hardly depend on its place.
+fn draw_list(case: u64, k: u64, first: u32, step: u32, choices: u64) -> [u32; TICKS]
+    requires { ⌜ (first ≤ 16) × (step ≤ 16) × (1 ≤ choices) × (choices ≤ 16) ⌝ }
+    ensures { λ r. ⌜ length r ≡ 12 ⌝ }
 {
-    let mut upper = [0; LONGEST];
-    let mut i = 0;
-    while i < LONGEST {
-        upper[i] = 2 * i as u32 + 4 + numbers::draw(case, 6_144 ^ (i as u64), 9) as u32;
-        i += 1;
-    }
-    upper
-}
-
-fn draw_leasts(case: u64) -> [u32; LONGEST]
-    ensures { λ r. ⌜ length r ≡ 8 ⌝ }
-{
-    let mut lower = [0; LONGEST];
-    let mut i = 0;
-    while i < LONGEST {
-        lower[i] = i as u32 + numbers::draw(case, 7_168 ^ (i as u64), 2 * i as u64 + 1) as u32;
-        i += 1;
-    }
-    lower
-}
-
-fn draw_ticks(case: u64) -> [u32; TICKS] {
-    let mut counts = [0; TICKS];
+    let mut list = [0; TICKS];
     let mut i = 0;
     while i < TICKS {
-        counts[i] = 1 + numbers::draw(case, 14_336 ^ (i as u64), 5) as u32;
+        list[i] = first + i as u32 * step + numbers::draw(case, k ^ (i as u64), choices) as u32;
         i += 1;
     }
-    counts
+    list
 }
 
 // The number of the case, the horizon, what opening answers, and each tick's answer. A refused opening hands out a state too: its ticks
