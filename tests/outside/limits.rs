@@ -69,9 +69,10 @@ fn lines() -> Vec<String> {
         rounds_line(&nine.upper, &nine.lower),
     ];
     let stuck = format!("stuck {}", states::stuck().sent_line(0));
+    let full = format!("full {}", states::full().judged_line(u32::MAX));
     let states = (1..=CASES).map(state_line);
     let runs = (0..=runs::CASES).map(runs::line);
-    lists.chain(longest).chain([stuck]).chain(states).chain(runs).collect()
+    lists.chain(longest).chain([stuck, full]).chain(states).chain(runs).collect()
 }
 
 /// Whether the tick is outside both ways, so that the order of comparing matters: in one window, or in different ones. In a script it
@@ -164,6 +165,7 @@ fn check_run(run: &Run, tally: &mut Tally) -> Result<(), String> {
 
 fn check_all(tally: &mut Tally) -> Result<(), String> {
     runs::check_example()?;
+    check_state(&states::full(), u32::MAX, tally)?;
     for case in 1..=CASES {
         let (state, count) = drawn(case);
         check_state(&state, count, tally)?;

@@ -6,7 +6,7 @@ use std::ops::RangeInclusive;
 
 use crate::pairs::Pair;
 use crate::states::kind_and_window;
-use crate::streams::{margin, verdict, window_margin, Margin};
+use crate::streams::{margin, sum, verdict, window_margin, Margin};
 use crate::subject::{LOST, PASSED, TOO_FEW, TOO_MANY};
 use crate::tally::{Tally, MARGIN_BY, MARGIN_CLOSED, MARGIN_CROSSING, MARGIN_LOST};
 use crate::tally::{MARGIN_PAST, MARGIN_REJECTED, MARGIN_SHARED, MARGIN_WINDOW};
@@ -46,15 +46,9 @@ impl Tick<'_> {
 
     /// The figures of a window, and its sum.
     fn figures_and_sum(&self, window: usize) -> (i64, i64, i64) {
-        let total = self.stream[self.stream.len() - window..]
-            .iter()
-            .map(|&count| i64::from(count))
-            .sum();
-        (
-            i64::from(self.given.upper[window - 1]),
-            i64::from(self.given.lower[window - 1]),
-            total,
-        )
+        let figure = |figures: &[u32]| i64::from(figures[window - 1]);
+        let total = sum(&self.stream[self.stream.len() - window..]) as i64;
+        (figure(&self.given.upper), figure(&self.given.lower), total)
     }
 
     /// Whether another count in the place of the last would be too many or too few.

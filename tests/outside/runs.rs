@@ -12,7 +12,7 @@ pub const CASES: u64 = 120;
 const TICKS: u64 = 12;
 
 /// The example's line, worked out beforehand, so that the reference is held to something outside itself.
-const EXAMPLE: &str = "run 0 3 0 0 0 5 1 0 0 4 1 0 0 3 3 0 0 1 3 0 0 0 3 1 1 -6 3";
+const EXAMPLE: &str = "run 0 3 0 0 0 5 1 0 0 4 1 0 0 3 3 0 0 1 3 0 0 0 3 1 1 -6 3 3 0 0 0";
 
 /// A pair to open a monitor on, and the counts that it gets.
 pub struct Run {
@@ -32,12 +32,14 @@ pub fn drawn(case: u64) -> Run {
     if case == 0 {
         return Run {
             pair: Pair::new(&[10, 16, 20], &[0, 2, 4]),
-            counts: vec![5, 6, 6, 7, 7, 12],
+            counts: vec![5, 6, 6, 7, 7, 12, 1],
         };
     }
     let horizon = 1 + draw(case, 20, 8);
     let list = |length: u64, k: u64, first: u64, step: u64, choices: u64| -> Vec<u32> {
-        (0..length).map(|i| (first + i * step + draw(case, k ^ i, choices)) as u32).collect()
+        (0..length)
+            .map(|i| (first + i * step + draw(case, k ^ i, choices)) as u32)
+            .collect()
     };
     Run {
         pair: Pair {

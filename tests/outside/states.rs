@@ -93,6 +93,20 @@ pub fn stuck() -> State {
     }
 }
 
+/// As many ticks as a monitor can hold, each with the largest count, over ceilings of 0. With one more of them no sum is larger, and no
+/// margin smaller.
+pub fn full() -> State {
+    let none = Pair::new(&[0; LONGEST_HORIZON], &[0; LONGEST_HORIZON]);
+    State {
+        horizon: LONGEST_HORIZON as u64,
+        held: LONGEST_HORIZON as u64 - 1,
+        failed: false,
+        given: none.clone(),
+        closed: none,
+        ticks: vec![u32::MAX; LONGEST_HORIZON],
+    }
+}
+
 /// What a monitor's tick comes to.
 #[derive(PartialEq)]
 pub struct Judged {

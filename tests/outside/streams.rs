@@ -4,7 +4,7 @@ use crate::pairs::{closes_to_itself, closure, Pair};
 use crate::rounds::opening;
 use crate::subject::{ALREADY_FAILED, LOST, NO_COUNT, PASSED, TOO_FEW, TOO_MANY};
 
-fn sum(counts: &[u32]) -> u64 {
+pub fn sum(counts: &[u32]) -> u64 {
     counts.iter().map(|&count| u64::from(count)).sum()
 }
 

@@ -108,7 +108,7 @@ const DUE: &[(&str, &[u32])] = &[
     (RUN, &[0, 5]),
     (RUN_TICK, &[0, 1, 2, 3, 4, 12]),
     (RUN_MARGIN, &[0, 1, 2]),
-    (MARGIN_WINDOW, &[1, 2, 3, 4, 5, 6, 7, 8]),
+    (MARGIN_WINDOW, &[1, 2, 3, 4, 5, 6, 7, 8, 256]),
     (MARGIN_BY, &[1, 2, 3]),
     (MARGIN_SHARED, &[1, 2]),
     (MARGIN_REJECTED, &[0, 1]),

@@ -103,4 +103,5 @@ outside-margins = (refl, refl, refl)
 
 -- Where the figures cross it is negative on both limits, between them and beyond.
 crossing-margins : (marginBetween 2 5 2 ≡ negsuc 2) × (marginBetween 2 5 5 ≡ negsuc 2) × (marginBetween 2 5 3 ≡ negsuc 1)
-crossing-margins = (refl, refl, refl)
+    × (marginBetween 2 5 0 ≡ negsuc 4) × (marginBetween 2 5 6 ≡ negsuc 3)
+crossing-margins = (refl, refl, refl, refl, refl)

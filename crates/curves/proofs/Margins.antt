@@ -48,24 +48,22 @@ module _ (u l x : ℕ) where
   pub below-between : marginBetween u l x <ℤ pos 0 → x ≤ u → x < l
   below-between h m = elim (decLt x l) [ yes f ↦ f | no f ↦ absurd (negative-between .0 h ((λ q. omega arith), f)) ]
 
-  -- It is 0 exactly on a limit, where they do not cross.
-  pub zero-between : l ≤ u → (marginBetween u l x ≡ pos 0) ↔ ((x ≡ u) ⊎ (x ≡ l))
-  zero-between h = (
-    between (λ z. z ≡ pos 0 → (x ≡ u) ⊎ (x ≡ l))
-        (λ k e. inl (omega (arith, minus-parts u x, ap up e, ap down e)))
-        (λ k e. inr (omega (arith, minus-parts x l, ap up e, ap down e))),
-    (λ e.
-        between (λ z. z ≡ pos 0)
-        (λ k. let e′ : x ≡ u = ⊎-elim (λ e. e) (λ e. omega arith) e in minus-pos u x (omega arith) ∙ ap pos (omega arith))
-        (λ k. let e′ : x ≡ l = ⊎-elim (λ e. omega arith) (λ e. e) e in minus-pos x l (omega arith) ∙ ap pos (omega arith))),
-  )
-
   -- Where it is n, one of the limits is n away.
   pub exact-between : (n : ℕ) → marginBetween u l x ≡ pos n → (x + n ≡ u) ⊎ (l + n ≡ x)
   exact-between n =
       between (λ z. z ≡ pos n → (x + n ≡ u) ⊎ (l + n ≡ x))
       (λ k e. inl (omega (arith, minus-parts u x, ap up e, ap down e)))
       (λ k e. inr (omega (arith, minus-parts x l, ap up e, ap down e)))
+
+  -- It is 0 exactly on a limit, where they do not cross.
+  pub zero-between : l ≤ u → (marginBetween u l x ≡ pos 0) ↔ ((x ≡ u) ⊎ (x ≡ l))
+  zero-between h = (
+    (λ e. ⊎-map (λ a. omega arith) (λ b. omega arith) (exact-between 0 e)),
+    (λ e.
+        between (λ z. z ≡ pos 0)
+        (λ k. let e′ : x ≡ u = ⊎-elim (λ e. e) (λ e. omega arith) e in minus-pos u x (omega arith) ∙ ap pos (omega arith))
+        (λ k. let e′ : x ≡ l = ⊎-elim (λ e. omega arith) (λ e. e) e in minus-pos x l (omega arith) ∙ ap pos (omega arith))),
+  )
 
 -- ---- the smallest over the judged windows
 module _ (p : Pair) (xs : List ℕ) where

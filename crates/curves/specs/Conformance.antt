@@ -6,7 +6,8 @@ use lib.ListN.{length}
 use Rattle.curves.specs.Pairs.{Pair, horizon, upperAt, lowerAt}
 use Rattle.curves.specs.Streams.{Stream, Begins, sum, countsOf}
 
--- A window of d ticks with the sum x has too many, or too few. Nothing else compares a sum with a figure.
+-- A window of d ticks with the sum x has too many, or too few. Nothing else tells whether a sum keeps its figures; a margin (Margins) has
+-- the two differences, and its sign tells the same.
 abbrev pub TooMany : Pair → ℕ → ℕ → Type 0
 TooMany p d x = upperAt p d < x
 

@@ -1,4 +1,4 @@
--- Document 01's terms, in its order, and what is proved of them.
+-- Document 01's terms, in its order, with request P5's margins, and what is proved of them.
 pub mod Streams
 pub mod Pairs
 pub mod Conformance

@@ -51,14 +51,15 @@ abbrev pub NegativeIffJudgedOutside : Type 0
 NegativeIffJudgedOutside = (w : MonitorView) (x : ℕ) → (carried w x .value <ℤ pos 0) ↔ JudgedOutside w x
 
 -- ---- what is left
--- With a margin of n, a count in its place that is larger or smaller by n or less is neither 'too many' nor 'too few'. It may be lost.
+-- With a margin of n, a count in its place that is larger or smaller by n or less is neither 'too many' nor 'too few', though it may be
+-- lost.
 abbrev pub WithinMarginNeither : Type 0
 WithinMarginNeither =
     (w : MonitorView) (x n : ℕ) → LegalUnfailed w → carried w x .value ≡ pos n
     → (y : ℕ) → x ≤ y + n → y ≤ x + n → Neither w y
 
--- One that is larger by more than n is, or one that is smaller by more: the window with the margin has its ceiling n above its sum, or
--- its least n below.
+-- And every count that is larger by more than n is 'too many' or 'too few', or every one that is smaller by more (there may be none): the
+-- window with the margin has its ceiling n above its sum, or its least n below.
 abbrev pub BeyondMarginOutside : Type 0
 BeyondMarginOutside =
     (w : MonitorView) (x n : ℕ) → LegalUnfailed w → carried w x .value ≡ pos n

@@ -21,11 +21,11 @@ pub(crate) fn try_all() {
     }
 }
 
-// The README's example: the margins are 5, 4, 3, 1, 0 and -6, and the last tick has too many.
+// The README's example: the margins are 5, 4, 3, 1, 0 and -6, with too many, and then none, as the monitor has failed.
 fn try_example() {
     let upper = [10, 16, 20];
     let lower = [0, 2, 4];
-    let counts = [5, 6, 6, 7, 7, 12];
+    let counts = [5, 6, 6, 7, 7, 12, 1];
     try_run(0, &upper, &lower, &counts);
 }
 
@@ -38,8 +38,8 @@ fn try_drawn(case: u64) {
     try_run(case, &upper[..horizon], &lower[..horizon], &counts);
 }
 
-// Figures or counts: entry i is one of `choices` numbers from `first + i * step` on. That is best odd: a draw's last bits, and so its
-// remainder by a power of 2, hardly depend on its place.
+// Figures or counts: entry i is one of `choices` numbers from `first + i * step` on. An odd `choices` is best: a draw's last bits, and so
+// its remainder by a power of 2, hardly depend on its place.
 fn draw_list(case: u64, k: u64, first: u32, step: u32, choices: u64) -> [u32; TICKS]
     requires { ⌜ (first ≤ 16) × (step ≤ 16) × (1 ≤ choices) × (choices ≤ 16) ⌝ }
     ensures { λ r. ⌜ length r ≡ 12 ⌝ }

@@ -17,8 +17,11 @@ const FIGURE_LIMIT: u32 = 16_776_960;
 
 const LARGEST: usize = 18_446_744_073_709_551_615;
 
+const LARGEST_COUNT: u32 = 4_294_967_295;
+
 pub(crate) fn try_all() {
     try_stuck();
+    try_full();
     let mut case = 1;
     while case <= CASES {
         try_state(case);
@@ -49,6 +52,28 @@ fn try_stuck() {
     };
     io::write_all(STDOUT_FILENO, b"stuck");
     try_generator(Generator { history }, 0);
+    io::write_all(STDOUT_FILENO, b"\n");
+}
+
+// A monitor that holds as many ticks as it can, of the largest count each, over ceilings of 0: no window has a larger sum, and no margin is
+// smaller.
+fn try_full() {
+    let zeros = [0; MAX_HORIZON];
+    let history = History {
+        horizon: MAX_HORIZON,
+        upper: zeros,
+        lower: zeros,
+        held: MAX_HORIZON - 1,
+        ticks: [LARGEST_COUNT; MAX_HORIZON],
+    };
+    let monitor = Monitor {
+        history,
+        closed_upper: zeros,
+        closed_lower: zeros,
+        failed: false,
+    };
+    io::write_all(STDOUT_FILENO, b"full");
+    try_monitor(monitor, LARGEST_COUNT);
     io::write_all(STDOUT_FILENO, b"\n");
 }
 
@@ -147,7 +172,7 @@ fn draw_count(case: u64, k: u64, odd: u64, end: u64) -> u32
         return FIGURE_LIMIT + 1;
     }
     if kind == 2 {
-        return 4_294_967_295;
+        return LARGEST_COUNT;
     }
     numbers::draw(case, k ^ 8_192, end) as u32
 }

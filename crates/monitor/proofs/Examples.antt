@@ -91,7 +91,7 @@ unfolding margins carried tightest? tightest-to less?
     judging ask legalMonitor? legal? ⊎-map every every? Dec·and decLe decLt figure verdict? find rejected inside? judged? sum
 lost-on-limit = refl
 
--- As far from the one limit as from the other, and two windows with the same margin: the shorter is named.
+-- Windows with the same margin: the shortest is named.
 shorter-named : carried (monitorView some pair false) 1 ≡ has 1 (pos 1)
 unfolding carried tightest? tightest-to less? ask legalMonitor? legal? ⊎-map every every? Dec·and decLe decLt figure judged? sum
 shorter-named = refl

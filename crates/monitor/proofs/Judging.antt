@@ -1,4 +1,5 @@
--- Laws over plain variables for judging a tick: what a turn of the loop keeps, and the verdict at each way out.
+-- Laws over plain variables for the two loops over the windows that end at a tick: what a turn of either keeps, the verdict at each way out
+-- of the judge's, and the smallest margin, which the other finds.
 -- Assumes nothing.
 use Rattle.laws.proofs.Base.{ℕ, suc, _+_, _-_, _≤_, _<_, _≡_, sym, ap, subst, List, add-one, decLt, arith, lt-ltb, le-ltb, length, getD}
 use lib.IntN.{ℤ, pos}
@@ -57,6 +58,10 @@ module _ (us ls xs : List ℕ) (count : ℕ) where
     unfolding figure
     margin-is = ap (marginBetween (getD us d 0) (getD ls d 0)) window
 
+    -- Where there is no tick before it, no judged window is longer.
+    none-longer : length xs ≤ d → (e : ℕ) → Judged p ys e → e ≤ d + 1
+    none-longer l e j = let b : e ≤ length ys = j .begun in omega (arith, length-then xs count)
+
     -- ---- judging: the windows of up to d ticks keep their figures
     module _ (K : KeptTo p ys d) where
       many : getD us d 0 < s → TooMany p (suc d) (last ys (suc d))
@@ -98,8 +103,7 @@ module _ (us ls xs : List ℕ) (count : ℕ) where
 
       pub found-none : pos 0 ≤ℤ marginBetween (getD us d 0) (getD ls d 0) s → length xs ≤ d → IsAnswered passed
       found-none h l =
-          right-found passed
-          (λ e j. one-more h e (let b : e ≤ length ys = j .begun in omega (arith, length-then xs count)) j)
+          right-found passed (λ e j. one-more h e (none-longer l e j) j)
 
     -- ---- the smallest margin, over the windows of up to d + 1 ticks
     abbrev here : ℤ
@@ -109,22 +113,21 @@ module _ (us ls xs : List ℕ) (count : ℕ) where
     hereOf = record { value = here; window = d + 1 }
 
     -- It takes the place of the smallest over the shorter ones where it is smaller, and else that stays.
-    pub smallest-new : (m : Margin) → TightestTo p ys d m → here <ℤ m .value → TightestTo p ys (d + 1) hereOf
-    smallest-new m T l =
+    pub tightest-here : (m : Margin) → TightestTo p ys d m → here <ℤ m .value → TightestTo p ys (d + 1) hereOf
+    tightest-here m T l =
         rw (add-one d)
         (subst (λ z. TightestTo p ys (suc d) (record { value = z; window = suc d })) margin-is
         (tightest-new p ys d m T is-judged (subst (λ z. z <ℤ m .value) (sym margin-is) l)))
 
-    pub smallest-kept : (m : Margin) → TightestTo p ys d m → m .value ≤ℤ here → TightestTo p ys (d + 1) m
-    smallest-kept m T l = rw (add-one d) (tightest-kept p ys d m T (λ j. subst (λ z. m .value ≤ℤ z) (sym margin-is) l))
+    pub tightest-stays : (m : Margin) → TightestTo p ys d m → m .value ≤ℤ here → TightestTo p ys (d + 1) m
+    tightest-stays m T l = rw (add-one d) (tightest-kept p ys d m T (λ j. subst (λ z. m .value ≤ℤ z) (sym margin-is) l))
 
     -- Where there is no tick before it, it is the smallest of all.
-    pub smallest-all : (m : Margin) → length xs ≤ d → TightestTo p ys (d + 1) m → Tightest p ys m
-    smallest-all m l =
-        tightest-all p ys (d + 1) m (λ e j. let b : e ≤ length ys = j .begun in omega (arith, length-then xs count))
+    pub tightest-ends : (m : Margin) → length xs ≤ d → TightestTo p ys (d + 1) m → Tightest p ys m
+    tightest-ends m l = tightest-all p ys (d + 1) m (none-longer l)
 
   -- That of the new tick alone is the first.
-  pub smallest-first : (S : Slices us ls xs) → TightestTo p ys 1 (hereOf S count 0 summed-none)
-  smallest-first S =
+  pub tightest-first : (S : Slices us ls xs) → TightestTo p ys 1 (hereOf S count 0 summed-none)
+  tightest-first S =
       subst (λ z. TightestTo p ys 1 (record { value = z; window = 1 })) (margin-is S count 0 summed-none)
       (tightest-one p ys (is-judged S count 0 summed-none))

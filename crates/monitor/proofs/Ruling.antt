@@ -1,4 +1,4 @@
--- Laws over plain variables for what follows the two runs of the judge: the ruling, the held ticks and the next state.
+-- Laws over plain variables for what follows from the margin and a run of the judge: the ruling, the held ticks and the next state.
 -- Assumes nothing.
 use Rattle.laws.proofs.Base.{ℕ, _-_, _≡_, refl, sym, ap, _∙_, subst⁻¹, Bool, true, false, List, [], _∷_, _++_, arith, take, drop}
 use lib.IntN.{pos}
@@ -17,15 +17,15 @@ use Rattle.history.specs.States.{View, historyOf, viewOf, added, Legal}
 use Rattle.history.proofs.Histories.{horizon-seen, held-seen}
 use Rattle.history.proofs.Slicing.{Arrays, some-window, tick-for-each, added-is}
 use Rattle.monitor.specs.declared.Monitor.{Monitor}
-use Rattle.monitor.specs.declared.Finding.{Finding}
+use Rattle.monitor.specs.declared.windows.Finding.{Finding}
 use Rattle.monitor.specs.declared.Verdict.{Verdict}
 use Rattle.monitor.specs.declared.Verdict.the-variants.{Passed, TooMany, TooFew, Lost, AlreadyFailed, BadState}
 use Rattle.monitor.proofs.Verdict.{the-type}
 use Rattle.monitor.specs.Monitoring.{MonitorView, monitorView, monitorOf, monitorViewOf, closedView, LegalMonitor, verdictOn}
-use Rattle.monitor.specs.Monitoring.{judged, lost, ruled, judging, afterPassed, MonitorNext}
+use Rattle.monitor.specs.Monitoring.{judged, ruled, judging, afterPassed, MonitorNext}
 use Rattle.monitor.specs.Margins.{noMargin, carried}
 use Rattle.monitor.specs.Answers.{verdictReply}
-use Rattle.monitor.specs.Steps.{ClosedWithin, marginFound, unjudgedAs, FoundOf, RuledOf, lostUnlessPassed}
+use Rattle.monitor.specs.Steps.{ClosedWithin, marginAs, unjudgedAs, FoundOf, RuledOf, lostUnlessPassed}
 use Rattle.monitor.specs.Steps.{HoldsWhere, HeldMore, HeldAsFound, Held, markAfter}
 use Rattle.monitor.proofs.Said.{judging-bad, judging-failed, judging-legal, judging-unfailed}
 use Rattle.monitor.proofs.Said.{carried-bad, carried-failed, carried-judged}
@@ -101,8 +101,8 @@ ruled-found w x l f r v v′ e e′ is =
     record {
       answer = is .answer ∙ (λ i. result (ruled (verdictOn (sym e i) x) (verdictOn (sym e′ i) x))) ∙ sym (judging-unfailed w x l f);
       margin =
-          carried-judged w x l f (marginFound r)
-          (subst⁻¹ (λ (v : View). Tightest (v .pair) (ticks.then (v .held) x) (marginFound r)) e (is .margin));
+          carried-judged w x l f (marginAs (r .margin))
+          (subst⁻¹ (λ (v : View). Tightest (v .pair) (ticks.then (v .held) x) (marginAs (r .margin))) e (is .margin));
     }
 
 -- ---- the next state

@@ -10,7 +10,7 @@ use Rattle.monitor.specs.declared.Monitor.{Monitor}
 use Rattle.monitor.specs.declared.Judgement.{Judgement}
 use Rattle.monitor.specs.Monitoring.{MonitorView, monitorViewOf, LegalMonitor, Ruling, judged, lost, alreadyFailed, ruled, rulingOn}
 use Rattle.monitor.specs.Monitoring.{verdictOn, closedView, judging, MonitorNext}
-use Rattle.monitor.specs.Margins.{noMargin, marginFrom, carried}
+use Rattle.monitor.specs.Margins.{noMargin, carried}
 use Rattle.monitor.specs.Promises.{MonitorTicked}
 use Rattle.monitor.specs.Calls.{monitorAfter, afterTick}
 
@@ -42,15 +42,14 @@ module _ (w : MonitorView) (x : ℕ) where
   -- ---- and what it carries
   pub carried-bad : ¬ LegalMonitor w → carried w x ≡ noMargin
   unfolding carried
-  carried-bad n = ap marginFrom (said-no _ _ _ 12 (inl (refl, n)))
+  carried-bad n = said-no _ _ _ 12 (inl (refl, n))
 
   carried-is : LegalMonitor w → (b : Bool) → w .failed ≡ b → (m : Margin) → Tightest (w .view .pair) (then (w .view .held) x) m
       → carried w x ≡ cond b noMargin m
   unfolding carried
   carried-is l b f m t =
-      ap marginFrom
-      (said-yes _ _ _ (result (cond b noMargin m)) (l, tt)
-      (λ ys i. result (cond (f i) noMargin (sym (tightest-is (w .view .pair) (w .view .held) x (ys .0 .given .lengths .0) m t) i))))
+      said-yes _ _ _ (cond b noMargin m) (l, tt)
+      (λ ys i. cond (f i) noMargin (sym (tightest-is (w .view .pair) (w .view .held) x (ys .0 .given .lengths .0) m t) i))
 
   pub carried-failed : LegalMonitor w → w .failed ≡ true → carried w x ≡ noMargin
   carried-failed l f =

@@ -22,8 +22,8 @@ use Rattle.monitor.specs.declared.MonitorOpening.the-variants as opening
 use Rattle.monitor.specs.declared.Verdict.{Verdict}
 use Rattle.monitor.specs.declared.Verdict.the-variants.{Passed, TooMany, TooFew, Lost, AlreadyFailed, BadState}
 use Rattle.monitor.specs.declared.Judgement.{Judgement}
-use Rattle.monitor.specs.declared.Finding.{Finding}
-use Rattle.monitor.specs.declared.Smallest.{Smallest}
+use Rattle.monitor.specs.declared.windows.Finding.{Finding}
+use Rattle.monitor.specs.declared.windows.Margin as declared
 use Rattle.monitor.specs.Monitoring.{MonitorView, monitorOf, verdictOn, ruled, judging}
 use Rattle.monitor.specs.Margins.{carried}
 use Rattle.monitor.specs.Opening.{zeroMonitor}
@@ -53,32 +53,25 @@ abbrev pub ClosedWithin : ℕ → List ℕ → List ℕ → Type 0
 ClosedWithin h us ls = Bounded (entries h us) × Bounded (entries h ls)
 
 -- ---- what is found of a tick
-abbrev pub marginFound : Finding → Margin
-marginFound r = record { value = r .margin; window = r .window }
-
-abbrev pub smallestIn : Smallest → Margin
-smallestIn r = record { value = r .margin; window = r .window }
-
--- A verdict beside the smallest margin.
-abbrev pub findingOf : Verdict → Smallest → Finding
-findingOf v m = record { verdict = v; margin = m .margin; window = m .window }
+abbrev pub marginAs : declared.Margin → Margin
+marginAs m = record { value = m .value; window = m .window }
 
 -- Where no window is judged.
 abbrev pub unjudgedAs : Verdict → Finding
-unjudgedAs v = record { verdict = v; margin = pos 0; window = 0 }
+unjudgedAs v = record { verdict = v; margin = record { value = pos 0; window = 0 } }
 
 pub record FoundOf (w : MonitorView) (x : ℕ) (r : Finding) : Type 0 where
   pub answer : verdictReply (r .verdict) ≡ judging w x
-  pub margin : marginFound r ≡ carried w x
+  pub margin : marginAs (r .margin) ≡ carried w x
 
 -- With the next state.
 abbrev pub judgementOf : Finding → Monitor → Judgement
-judgementOf r next = record { verdict = r .verdict; margin = r .margin; window = r .window; next = next }
+judgementOf r next = record { verdict = r .verdict; margin = r .margin .value; window = r .margin .window; next = next }
 
 -- By a view with the figures as given, and one with the closed figures.
 pub record RuledOf (v v′ : View) (x : ℕ) (r : Finding) : Type 0 where
   pub answer : verdictReply (r .verdict) ≡ result (ruled (verdictOn v x) (verdictOn v′ x))
-  pub margin : Tightest (v .pair) (then (v .held) x) (marginFound r)
+  pub margin : Tightest (v .pair) (then (v .held) x) (marginAs (r .margin))
 
 -- The verdict on a tick that keeps the figures as given, from the one by the closed figures.
 abbrev pub lostUnlessPassed : Verdict → Verdict

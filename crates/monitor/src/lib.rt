@@ -1,5 +1,9 @@
 // The monitor (document 01's line monitor): judges each tick of a stream by the windows that end there.
 
+mod windows;
+
+use crate::windows::Finding;
+use crate::windows::Margin;
 use closure::Closing;
 use history::History;
 use history::Legality;
@@ -7,18 +11,13 @@ ghost use mathlib.Core.Path.{_≡_};
 ghost use Prim.Native.Nat.{_≤_};
 ghost use Rattle.laws.specs.Tests.{Tells};
 ghost use Rattle.curves.specs.Pairs.{pairOf};
-ghost use Rattle.curves.specs.Ticks.{then};
-ghost use Rattle.curves.specs.Margins.{marginBetween, Tightest};
-ghost use Rattle.curves.specs.Questions.{result};
 ghost use Rattle.bounds.specs.Bounds.{maxHorizon};
 ghost use Rattle.history.specs.States.{historyOf};
-ghost use Rattle.history.specs.Steps.{Slices, viewWith};
-ghost use Rattle.monitor.specs.Monitoring.{monitorOf, monitorViewOf, judged, verdictOn};
+ghost use Rattle.monitor.specs.Monitoring.{monitorOf, monitorViewOf};
 ghost use Rattle.monitor.specs.Opening.{zeroMonitor};
-ghost use Rattle.monitor.specs.Answers.{verdictReply};
 ghost use Rattle.monitor.specs.Promises.{MonitorOpened, MonitorTicked};
-ghost use Rattle.monitor.specs.Steps.{monitorOpeningFor, begunAs, judgementOf, FoundOf, unjudgedAs, ClosedWithin, RuledOf};
-ghost use Rattle.monitor.specs.Steps.{findingOf, lostUnlessPassed, outsideAs, smallestIn, windowLimit, HoldsWhere, Held, markAfter};
+ghost use Rattle.monitor.specs.Steps.{monitorOpeningFor, begunAs, judgementOf, FoundOf, unjudgedAs, ClosedWithin, HoldsWhere};
+ghost use Rattle.monitor.specs.Steps.{Held, markAfter};
 
 // The longest horizon.
 const MAX_HORIZON: usize = 256;
@@ -75,19 +74,6 @@ pub struct Judgement {
     pub next: Monitor,
 }
 
-// What is found of a tick.
-struct Finding {
-    verdict: Verdict,
-    margin: i64,
-    window: usize,
-}
-
-// The smallest margin of the windows that end at a tick, and the shortest window that has it.
-struct Smallest {
-    margin: i64,
-    window: usize,
-}
-
 impl Monitor {
     // A monitor of the pair of `upper` and `lower`, entry 0 for the window of one tick; where the opening is refused, all of it is 0.
     pub fn open(upper: &[u32], lower: &[u32]) -> OpenedMonitor
@@ -115,7 +101,7 @@ impl Monitor {
         let mut ticks = history.ticks;
         let closed_upper = self.closed_upper;
         let closed_lower = self.closed_lower;
-        let finding = find(
+        let finding = examine_tick(
             horizon,
             &upper,
             &lower,
@@ -151,10 +137,11 @@ fn conclude(finding: Finding, next: Monitor) -> Judgement
     ensures { λ r. ⌜ r ≡ judgementOf finding next ⌝ }
 {
     let verdict = finding.verdict;
+    let margin = finding.margin;
     Judgement {
         verdict,
-        margin: finding.margin,
-        window: finding.window,
+        margin: margin.value,
+        window: margin.window,
         next,
     }
 }
@@ -208,7 +195,7 @@ fn zero() -> Monitor
 }
 
 // The verdict on the next tick, and its margin. Question 12, of the closed figures too, comes before the failed mark.
-fn find(
+fn examine_tick(
     horizon: usize,
     upper: &[u32; MAX_HORIZON],
     lower: &[u32; MAX_HORIZON],
@@ -236,7 +223,7 @@ fn find(
     let counts: &[u32] = ticks;
     let closed_upper_figures: &[u32] = closed_upper;
     let closed_lower_figures: &[u32] = closed_lower;
-    rule(
+    windows::rule(
         &upper_figures[..horizon],
         &lower_figures[..horizon],
         &closed_upper_figures[..horizon],
@@ -250,11 +237,11 @@ fn find(
 fn unjudged(verdict: Verdict) -> Finding
     ensures { λ r. ⌜ r ≡ unjudgedAs verdict ⌝ }
 {
-    Finding {
-        verdict,
-        margin: 0,
+    let margin = Margin {
+        value: 0,
         window: 0,
-    }
+    };
+    Finding { verdict, margin }
 }
 
 // Whether no closed figure up to the horizon is above the limit.
@@ -269,119 +256,6 @@ fn closed_within(
     let upper: &[u32] = closed_upper;
     let lower: &[u32] = closed_lower;
     bounds::within_limit(&upper[..horizon]) & bounds::within_limit(&lower[..horizon])
-}
-
-// Judges by the figures as given; a tick that keeps them is lost where it does not keep the closed ones. The margin tells whether it
-// keeps them, so only where it does not are they gone through again, for the shortest window outside.
-fn rule(
-    upper: &[u32],
-    lower: &[u32],
-    closed_upper: &[u32],
-    closed_lower: &[u32],
-    ticks: &[u32],
-    count: u32,
-) -> Finding
-    requires { ⌜ Slices (now upper) (now lower) (now ticks) ⌝ }
-    requires { ⌜ Slices (now «closed_upper») (now «closed_lower») (now ticks) ⌝ }
-    ensures { λ r. ⌜ RuledOf
-        (viewWith (now (upper .entry)) (now (lower .entry)) (now (ticks .entry)))
-        (viewWith (now («closed_upper» .entry)) (now («closed_lower» .entry)) (now (ticks .entry))) count r ⌝ }
-{
-    let smallest = find_smallest(upper, lower, ticks, count);
-    if smallest.margin < 0 {
-        return with_margin(judge(upper, lower, ticks, count), smallest);
-    }
-    with_margin(
-        lost_unless_passed(judge(closed_upper, closed_lower, ticks, count)),
-        smallest,
-    )
-}
-
-// A verdict beside the smallest margin.
-fn with_margin(verdict: Verdict, smallest: Smallest) -> Finding
-    ensures { λ r. ⌜ r ≡ findingOf verdict smallest ⌝ }
-{
-    Finding {
-        verdict,
-        margin: smallest.margin,
-        window: smallest.window,
-    }
-}
-
-// The verdict on a tick that keeps the figures as given, from the one by the closed figures.
-fn lost_unless_passed(closed: Verdict) -> Verdict
-    ensures { λ r. ⌜ r ≡ lostUnlessPassed closed ⌝ }
-{
-    match closed {
-        Verdict::Passed => Verdict::Passed,
-        _ => Verdict::Lost,
-    }
-}
-
-// Window after window, the shortest first; `sum` has the new tick and the d before it.
-fn judge(upper: &[u32], lower: &[u32], ticks: &[u32], count: u32) -> Verdict
-    requires { ⌜ Slices (now upper) (now lower) (now ticks) ⌝ }
-    ensures { λ r. ⌜ verdictReply r
-        ≡ result (judged (verdictOn (viewWith (now (upper .entry)) (now (lower .entry)) (now (ticks .entry))) count)) ⌝ }
-{
-    let held = ticks.len();
-    let mut sum = count as u64;
-    let mut d = 0;
-    let verdict = loop {
-        if margin_between(upper[d], lower[d], sum) < 0 {
-            break outside(upper[d], sum, d + 1);
-        }
-        if held <= d {
-            break Verdict::Passed;
-        }
-        sum += ticks[held - 1 - d] as u64;
-        d += 1;
-    };
-    verdict
-}
-
-// The verdict on a window that is outside its figures. Where they cross it may be so both ways: 'too many' is looked at first.
-fn outside(ceiling: u32, sum: u64, window: usize) -> Verdict
-    ensures { λ r. ⌜ r ≡ outsideAs ceiling sum window ⌝ }
-{
-    if (ceiling as u64) < sum {
-        Verdict::TooMany { window }
-    } else {
-        Verdict::TooFew { window }
-    }
-}
-
-// The smallest margin over the same windows. A later one takes its place only where it is smaller, so the window is the shortest.
-fn find_smallest(upper: &[u32], lower: &[u32], ticks: &[u32], count: u32) -> Smallest
-    requires { ⌜ Slices (now upper) (now lower) (now ticks) ⌝ }
-    ensures { λ r. ⌜ Tightest (pairOf (now (upper .entry)) (now (lower .entry))) (then (now (ticks .entry)) count) (smallestIn r) ⌝ }
-{
-    let held = ticks.len();
-    let mut sum = count as u64;
-    let mut margin = margin_between(upper[0], lower[0], sum);
-    let mut window = 1;
-    let mut d = 0;
-    while d < held {
-        sum += ticks[held - 1 - d] as u64;
-        d += 1;
-        let found = margin_between(upper[d], lower[d], sum);
-        if found < margin {
-            margin = found;
-            window = d + 1;
-        }
-    }
-    Smallest { margin, window }
-}
-
-// The margin of one window: the smaller of ceiling minus sum and sum minus least. It is negative where the sum is outside.
-fn margin_between(ceiling: u32, least: u32, sum: u64) -> i64
-    requires { ⌜ sum ≤ windowLimit ⌝ }
-    ensures { λ r. ⌜ r ≡ marginBetween ceiling least sum ⌝ }
-{
-    let total = sum as i64;
-    let above = ceiling as i64 - total;
-    let below = total - least as i64;
-    if above <= below { above } else { below }
 }
 
 // Puts a count that passed behind the held ticks, one fewer than the horizon at most; else nothing changes. Gives back how many are held.

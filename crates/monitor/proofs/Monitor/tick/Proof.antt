@@ -7,7 +7,7 @@ use Rattle.monitor.proofs.Monitor.tick.Statement.{statement}
 use Rattle.monitor.proofs.Monitor.tick.Tie as tie
 
 -- The start, seen from where the tick is judged.
-abbrev start : tie.After-find → tie.Start
+abbrev start : tie.After-examine-tick → tie.Start
 start f = f .before .before .before .before .before .before .before .before .before .before .before .before
 
 arrays : (s : tie.Start) → Arrays (s .args .self .history)
@@ -16,12 +16,14 @@ arrays s = record { uppers = search needs; lowers = search needs; held = search 
 hold-requires : tie.Need-hold-requires
 hold-requires c κs =
     let f = c .before in
-    holds-where (start f .args .self) (start f .args .count) (f .find .result .verdict) (arrays (start f)) (f .find .ensures .answer)
+    let s = start f in
+    let found = f .examine-tick in
+    holds-where (s .args .self) (s .args .count) (found .result .verdict) (arrays s) (found .ensures .answer)
 
 returns : tie.Need-returns
 returns c =
     let f = c .before .before .before .before .before in
-    let found = f .find in
+    let found = f .examine-tick in
     let s = start f in
     rw (c .conclude .ensures) (record {
       answer = found .ensures .answer;

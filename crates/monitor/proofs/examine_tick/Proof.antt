@@ -1,4 +1,4 @@
--- `monitor::find` meets its contract: question 12, the failed mark and then the windows settle the answer and the margin.
+-- `monitor::examine_tick` meets its contract: question 12, the failed mark and then the windows settle the answer and the margin.
 -- Assumes nothing.
 use borrow.Author.Needs.{needs}
 use Rattle.laws.proofs.Tests.{told-yes, told-no}
@@ -10,8 +10,8 @@ use Rattle.history.proofs.Slicing.{Arrays, upper-length, lower-length, ticks-le
 use Rattle.monitor.specs.Monitoring.{MonitorView, monitorOf, monitorViewOf, LegalMonitor}
 use Rattle.monitor.specs.Steps.{ClosedWithin}
 use Rattle.monitor.proofs.Ruling.{bad-found, failed-found, closed-legal, ruled-found}
-use Rattle.monitor.proofs.find.Statement.{statement}
-use Rattle.monitor.proofs.find.Tie as tie
+use Rattle.monitor.proofs.examine_tick.Statement.{statement}
+use Rattle.monitor.proofs.examine_tick.Tie as tie
 
 -- The history with the figures as given, the one with the closed figures, and the view of the state.
 abbrev given : tie.Start → History
@@ -99,8 +99,8 @@ returns-4 c =
     (view-sliced (given s) (given-arrays e) (legal (told e) .given))
     (view-sliced (closed s) (closed-arrays e) (closed-view-legal e)) (c .rule .ensures)
 
-pub find-spec : {M : Type 1} → statement M
-find-spec =
+pub examine-tick-spec : {M : Type 1} → statement M
+examine-tick-spec =
     tie.close
     (tie.spec
     (λ c κs. search needs)

@@ -1,9 +1,9 @@
--- `monitor::lost_unless_passed` meets its contract: all but 'passed' are lost.
+-- `monitor::windows::lost_unless_passed` meets its contract: all but 'passed' are lost.
 -- Assumes nothing.
 use borrow.Author.Needs.{needs}
 use Rattle.monitor.proofs.Ruling.{lost-unless}
-use Rattle.monitor.proofs.lost_unless_passed.Statement.{statement}
-use Rattle.monitor.proofs.lost_unless_passed.Tie as tie
+use Rattle.monitor.proofs.windows.lost_unless_passed.Statement.{statement}
+use Rattle.monitor.proofs.windows.lost_unless_passed.Tie as tie
 
 pub lost-unless-passed-spec : {M : Type 1} → statement M
 lost-unless-passed-spec =

@@ -1,4 +1,4 @@
--- `monitor::margin_between` meets its contract: both differences fit, and the smaller one is given back.
+-- `monitor::windows::margin_between` meets its contract: both differences fit, and the smaller one is given back.
 -- Assumes nothing.
 use Rattle.laws.proofs.Base.{_+_, _^_, _<_, _≡_, sym, _∙_, Bool, true, false, arith, needs}
 use lib.IntN.{pos, _-ℤ_}
@@ -6,8 +6,8 @@ use lib.Signed.{leZ}
 use mir.Syntax.{w64}
 use mir.Val.{toZ, ofZ}
 use Rattle.laws.proofs.Signed.{minus-fits, minus-read}
-use Rattle.monitor.proofs.margin_between.Statement.{statement}
-use Rattle.monitor.proofs.margin_between.Tie as tie
+use Rattle.monitor.proofs.windows.margin_between.Statement.{statement}
+use Rattle.monitor.proofs.windows.margin_between.Tie as tie
 
 -- The numbers are far below what 64 bits hold.
 above-small : (s : tie.Start) → s .args .ceiling + s .args .sum < 2 ^ 63

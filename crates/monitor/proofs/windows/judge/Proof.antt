@@ -1,4 +1,4 @@
--- `monitor::judge` meets its contract: before a turn the windows of up to d ticks keep their figures.
+-- `monitor::windows::judge` meets its contract: before a turn the windows of up to d ticks keep their figures.
 -- Assumes nothing.
 use Rattle.laws.proofs.Base.{_+_, _-_, _*_, _≤_, ap, _∙_, arith, needs, length, getD}
 use lib.IntN.{pos}
@@ -11,8 +11,8 @@ use Rattle.curves.specs.Margins.{marginBetween}
 use Rattle.curves.proofs.Verdicts.{KeptTo, kept-none}
 use Rattle.monitor.specs.Answers.{verdictReply}
 use Rattle.monitor.proofs.Judging.{SummedTo, summed-none, summed-more, one-more, found-outside, found-none}
-use Rattle.monitor.proofs.judge.Statement.{statement}
-use Rattle.monitor.proofs.judge.Tie as tie
+use Rattle.monitor.proofs.windows.judge.Statement.{statement}
+use Rattle.monitor.proofs.windows.judge.Tie as tie
 
 abbrev Inv-loop : tie.InvT-loop
 Inv-loop upper lower ticks count held sum₀ d₀ sum d =

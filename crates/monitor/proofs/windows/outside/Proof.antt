@@ -1,8 +1,8 @@
--- `monitor::outside` meets its contract: the comparison with the ceiling decides.
+-- `monitor::windows::outside` meets its contract: the comparison with the ceiling decides.
 -- Assumes nothing.
 use Rattle.laws.proofs.Base.{refl, lt-ltb, le-ltb}
-use Rattle.monitor.proofs.outside.Statement.{statement}
-use Rattle.monitor.proofs.outside.Tie as tie
+use Rattle.monitor.proofs.windows.outside.Statement.{statement}
+use Rattle.monitor.proofs.windows.outside.Tie as tie
 
 pub outside-spec : {M : Type 1} → statement M
 outside-spec =

@@ -1,4 +1,4 @@
--- `monitor::find_smallest` meets its contract: before a turn the margin is the smallest over the windows of up to d + 1 ticks.
+-- `monitor::windows::find_tightest` meets its contract: before a turn the margin is the smallest over the windows of up to d + 1 ticks.
 -- Assumes nothing.
 use Rattle.laws.proofs.Base.{ℕ, _+_, _-_, _*_, _≤_, sym, subst, arith, needs, length, getD}
 use lib.IntN.{ℤ}
@@ -9,17 +9,17 @@ use Rattle.curves.specs.Streams.{countLimit}
 use Rattle.curves.specs.Pairs.{pairOf}
 use Rattle.curves.specs.Ticks.{then}
 use Rattle.curves.proofs.Margins.{TightestTo}
-use Rattle.monitor.proofs.Judging.{SummedTo, summed-none, summed-more, smallest-first, smallest-new, smallest-kept, smallest-all}
-use Rattle.monitor.proofs.find_smallest.Statement.{statement}
-use Rattle.monitor.proofs.find_smallest.Tie as tie
+use Rattle.monitor.proofs.Judging.{SummedTo, summed-none, summed-more, tightest-first, tightest-here, tightest-stays, tightest-ends}
+use Rattle.monitor.proofs.windows.find_tightest.Statement.{statement}
+use Rattle.monitor.proofs.windows.find_tightest.Tie as tie
 
 abbrev Inv-loop : tie.InvT-loop
-Inv-loop upper lower ticks count held sum₀ margin₀ window₀ d₀ sum margin window d =
+Inv-loop upper lower ticks count held sum₀ value₀ window₀ d₀ sum value window d =
     (sum ≤ (d + 1) * countLimit) × SummedTo upper lower ticks count sum d
-    × TightestTo (pairOf upper lower) (then ticks count) (d + 1) (record { value = toZ w64 margin; window = window })
+    × TightestTo (pairOf upper lower) (then ticks count) (d + 1) (record { value = toZ w64 value; window = window })
 
 abbrev μ-loop : tie.MeasureT-loop
-μ-loop upper lower ticks count held sum₀ margin₀ window₀ d₀ sum margin window d = length ticks - d
+μ-loop upper lower ticks count held sum₀ value₀ window₀ d₀ sum value window d = length ticks - d
 
 -- The function's start, seen from a turn's beginning; and that, seen from where a tick is added.
 abbrev start : tie.At-loop Inv-loop μ-loop → tie.Start Inv-loop μ-loop
@@ -34,8 +34,8 @@ added : (c : tie.After-shared-slice-known6 Inv-loop μ-loop)
 added c = omega (arith, c .shared-slice-known6 .given (length (start (head c) .args .ticks .now) - 1 - head c .loop .d))
 
 -- The smallest margin over the windows of up to n ticks is z, and w has it.
-abbrev Smallest : tie.Start Inv-loop μ-loop → ℕ → ℕ → ℤ → Type 0
-Smallest s n w z =
+abbrev TightestSoFar : tie.Start Inv-loop μ-loop → ℕ → ℕ → ℤ → Type 0
+TightestSoFar s n w z =
     let a = s .args in
     TightestTo (pairOf (a .upper .now) (a .lower .now)) (then (a .ticks .now) (a .count)) n (record { value = z; window = w })
 
@@ -45,8 +45,8 @@ loop-holds c =
     let s = c .before .before .before .before .before .before in (
       search needs,
       summed-none _ _ _ _,
-      subst (Smallest s 1 1) (sym (result-read (first .result) _ (record { sfits = first .ok }) (first .ensures)))
-          (smallest-first _ _ _ _ (s .pre)),
+      subst (TightestSoFar s 1 1) (sym (result-read (first .result) _ (record { sfits = first .ok }) (first .ensures)))
+          (tightest-first _ _ _ _ (s .pre)),
     )
 
 -- The sum of the next window, and its bound.
@@ -64,8 +64,8 @@ loop-again c =
     let fits : SFits w64 (found .result) = record { sfits = found .ok } in (
       omega (arith, added k),
       next-sum k,
-      subst (Smallest (start t) (t .loop .d + 1 + 1) (t .loop .d + 1 + 1)) (sym (result-read (found .result) _ fits (found .ensures)))
-          (smallest-new _ _ _ _ (start t .pre) _ _ (next-sum k) _ (t .loop .inv .2)
+      subst (TightestSoFar (start t) (t .loop .d + 1 + 1) (t .loop .d + 1 + 1)) (sym (result-read (found .result) _ fits (found .ensures)))
+          (tightest-here _ _ _ _ (start t .pre) _ _ (next-sum k) _ (t .loop .inv .2)
           (less-told (found .result) _ fits (found .ensures) _ (c .if1 .taken))),
     )
 
@@ -75,17 +75,17 @@ loop-again-2 c =
     let k = c .before .before .before .before in (
       omega (arith, added k),
       next-sum k,
-      smallest-kept _ _ _ _ (start (head k) .pre) _ _ (next-sum k) _ (head k .loop .inv .2)
+      tightest-stays _ _ _ _ (start (head k) .pre) _ _ (next-sum k) _ (head k .loop .inv .2)
           (not-less-told (found .result) _ (record { sfits = found .ok }) (found .ensures) _ (c .if1 .left)),
     )
 
 returns : tie.Need-returns Inv-loop μ-loop
 returns c =
     let t = c .before in
-    smallest-all _ _ _ _ (start t .pre) _ _ (t .loop .inv .1) _ (c .loop-test .left) (t .loop .inv .2)
+    tightest-ends _ _ _ _ (start t .pre) _ _ (t .loop .inv .1) _ (c .loop-test .left) (t .loop .inv .2)
 
-pub find-smallest-spec : {M : Type 1} → statement M
-find-smallest-spec =
+pub find-tightest-spec : {M : Type 1} → statement M
+find-tightest-spec =
     tie.close
     (tie.spec
     Inv-loop
