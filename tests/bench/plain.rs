@@ -1,7 +1,7 @@
 //! The operations as a plain Rust program would have them: for each window its candidates, one after the other, in 32 bits; states
 //! that go in and come out by value and are asked about at each tick; one pass over the text. No loop that matters has a bounds check.
-//! All but the rounds of closing, and the one of a generator's opening, are the product's own algorithms; and a tick of the monitor finds no
-//! margin here, which the product's does.
+//! All but the rounds of closing, and the one of a generator's opening, are the product's own algorithms; and a tick of the monitor
+//! finds no margin here, as the product's does.
 
 use crate::subject::{
     refusal_of, refused, ALREADY_FAILED, HEADER, LIMIT, LONGEST_HORIZON, LONGEST_TEXT, LOST, NO_COUNT, PASSED, TEXT_LIMIT, TOO_FEW,

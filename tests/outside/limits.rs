@@ -1,12 +1,13 @@
 //! The lines that the program `limits` has to write: lists at the limits, pairs of many rounds, states built by hand, and streams on
-//! opened monitors. Its numbers are drawn here as they are drawn there; what comes of them is computed by the reference.
+//! monitors as an opening hands them out. Its numbers are drawn here as they are drawn there; what comes of them is computed by the
+//! reference.
 
 use crate::margins::{sign, Tick};
 use crate::pairs::{self, Pair};
 use crate::reference::Reference;
 use crate::runs::{self, Course, Run};
 use crate::states::{self, digest, drawn, is_judged, kind_and_window, Judged, Sent, State, CASES};
-use crate::streams::verdict;
+use crate::streams::{sum, verdict};
 use crate::subject::{Subject, ALREADY_FAILED, LIMIT, LONGEST_HORIZON, LOST, PASSED, REFUSED};
 use crate::tally::{Tally, BOTH, BUILT, BUILT_LOOSER, BUILT_MARGIN, BUILT_REJECTED, BUILT_SENT, BUILT_TWELVE};
 use crate::tally::{RUN, RUN_MARGIN, RUN_TICK};
@@ -80,7 +81,7 @@ fn lines() -> Vec<String> {
 fn note_both(pair: &Pair, stream: &[u32], tally: &mut Tally) {
     let (mut many, mut few) = (None, None);
     for window in (1..=pair.horizon().min(stream.len())).rev() {
-        let total: u64 = stream[stream.len() - window..].iter().map(|&count| u64::from(count)).sum();
+        let total = sum(&stream[stream.len() - window..]);
         if total > u64::from(pair.upper[window - 1]) {
             many = Some(window);
         }

@@ -9,6 +9,7 @@
 mod closings;
 mod comparisons;
 mod extensions;
+mod fault_list;
 mod faults;
 mod faulty_closing;
 mod faulty_margins;
@@ -112,7 +113,7 @@ fn run_all(given: &Arguments) -> Result<(), String> {
     println!("outside: seed {}, factor {}", given.seed, given.factor);
     let tally = run_product(given)?;
     tally.print();
-    println!("mutants, {}:", faults::MUTANTS.len());
+    println!("mutants, {}:", fault_list::MUTANTS.len());
     let missed = mutants::run(given.seed);
     let missing = tally.missing();
     if !missing.is_empty() {
@@ -129,8 +130,8 @@ fn main() -> ExitCode {
         Ok(()) => {
             println!(
                 "outside: all agree, {} of {} mutants caught",
-                faults::MUTANTS.len(),
-                faults::MUTANTS.len()
+                fault_list::MUTANTS.len(),
+                fault_list::MUTANTS.len()
             );
             ExitCode::SUCCESS
         }

@@ -5,7 +5,8 @@ use std::sync::Mutex;
 use std::thread;
 
 use crate::comparisons::{work_of, COMPARISONS, PROMISES};
-use crate::faults::{Fault, MUTANTS};
+use crate::fault_list::MUTANTS;
+use crate::faults::Fault;
 use crate::faulty_closing::Faulty;
 use crate::limits;
 use crate::subject::Subject;

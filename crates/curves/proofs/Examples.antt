@@ -94,12 +94,12 @@ unfolding verdict? find rejected inside? judged? decLe decLt Dec·and sum figure
 many-first = refl
 
 -- ---- the margin of one window
--- Nearer to the ceiling, nearer to the least, on it, and outside.
+-- Inside, nearer to the one limit or to the other; on a limit, and outside on either side.
 inside-margins : (marginBetween 10 2 7 ≡ pos 3) × (marginBetween 10 2 5 ≡ pos 3) × (marginBetween 10 2 4 ≡ pos 2)
 inside-margins = (refl, refl, refl)
 
-outside-margins : (marginBetween 10 2 2 ≡ pos 0) × (marginBetween 10 2 12 ≡ negsuc 1) × (marginBetween 10 2 0 ≡ negsuc 1)
-outside-margins = (refl, refl, refl)
+limit-margins : (marginBetween 10 2 2 ≡ pos 0) × (marginBetween 10 2 12 ≡ negsuc 1) × (marginBetween 10 2 0 ≡ negsuc 1)
+limit-margins = (refl, refl, refl)
 
 -- Where the figures cross it is negative on both limits, between them and beyond.
 crossing-margins : (marginBetween 2 5 2 ≡ negsuc 2) × (marginBetween 2 5 5 ≡ negsuc 2) × (marginBetween 2 5 3 ≡ negsuc 1)

@@ -71,8 +71,8 @@ module _ (p : Pair) (xs : List ℕ) where
   marginAt d = marginOf p d (last xs d)
 
   -- The margin of the window of d ticks, with that window.
-  abbrev pub its : ℕ → Margin
-  its d = record { value = marginAt d; window = d }
+  abbrev pub withWindow : ℕ → Margin
+  withWindow d = record { value = marginAt d; window = d }
 
   -- The smallest over the judged windows of up to n ticks.
   pub record TightestTo (n : ℕ) (m : Margin) : Type 0 where
@@ -82,7 +82,7 @@ module _ (p : Pair) (xs : List ℕ) where
     pub none-smaller : (d : ℕ) → d ≤ n → Judged p xs d → m .value ≤ℤ marginAt d
     pub shorter-larger : (d : ℕ) → d < m .window → Judged p xs d → m .value <ℤ marginAt d
 
-  pub tightest-one : Judged p xs 1 → TightestTo 1 (its 1)
+  pub tightest-one : Judged p xs 1 → TightestTo 1 (withWindow 1)
   tightest-one j =
       record {
         within = omega arith;
@@ -105,7 +105,7 @@ module _ (p : Pair) (xs : List ℕ) where
       }
 
   pub tightest-new : (n : ℕ) (m : Margin) → TightestTo n m → Judged p xs (suc n) → marginAt (suc n) <ℤ m .value
-      → TightestTo (suc n) (its (suc n))
+      → TightestTo (suc n) (withWindow (suc n))
   tightest-new n m t j l =
       let below : (d : ℕ) → d ≤ n → Judged p xs d → marginAt (suc n) <ℤ marginAt d = λ d h i. <ℤ-≤ℤ-trans l (t .none-smaller d h i) in
       record {
@@ -131,13 +131,13 @@ module _ (p : Pair) (xs : List ℕ) where
       }
 
   unfoldable pub tightest-to : Judged p xs 1 → (n : ℕ) → (m : Margin) × TightestTo (suc n) m
-  tightest-to j zero = (its 1, tightest-one j)
+  tightest-to j zero = (withWindow 1, tightest-one j)
   tightest-to j (suc n) =
       let (m, t) = tightest-to j n in
       elim (judged? p xs (suc (suc n))) [
         | yes i ↦
             ⊎-elim
-            (λ l. (its (suc (suc n)), tightest-new (suc n) m t i l))
+            (λ l. (withWindow (suc (suc n)), tightest-new (suc n) m t i l))
             (λ k. (m, tightest-kept (suc n) m t (λ _. k)))
             (less? (marginAt (suc (suc n))) (m .value))
         | no f ↦ (m, tightest-kept (suc n) m t (λ i. absurd (f i)))
@@ -155,6 +155,9 @@ module _ (p : Pair) (xs : List ℕ) where
       let e : m .value ≡ m′ .value = ≤ℤ-antisym (m .value) (m′ .value) (no-larger m m′ t t′) (no-larger m′ m t′ t) in
       let w : m .window ≡ m′ .window = omega (arith, no-shorter m m′ t t′ e, no-shorter m′ m t′ t (sym e)) in
       λ i. record { value = e i; window = w i }
+
+  pub tightest-exactly : (m : Margin) → Tightest p xs m → (m′ : Margin) → (m ≡ m′) ↔ Tightest p xs m′
+  tightest-exactly m t m′ = ((λ e. subst (Tightest p xs) e t), (λ t′. tightest-once m m′ t t′))
 
 -- ---- of the newest tick
 -- With another count in it the same windows are judged, and their sums differ by what the counts do.

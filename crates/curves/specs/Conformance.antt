@@ -6,8 +6,8 @@ use lib.ListN.{length}
 use Rattle.curves.specs.Pairs.{Pair, horizon, upperAt, lowerAt}
 use Rattle.curves.specs.Streams.{Stream, Begins, sum, countsOf}
 
--- A window of d ticks with the sum x has too many, or too few. Nothing else tells whether a sum keeps its figures; a margin (Margins) has
--- the two differences, and its sign tells the same.
+-- A window of d ticks with the sum x has too many, or too few. A margin (Margins) subtracts instead; that its sign tells the same is
+-- `NegativeIffOutside` (`guarantees`).
 abbrev pub TooMany : Pair → ℕ → ℕ → Type 0
 TooMany p d x = upperAt p d < x
 

@@ -1,5 +1,5 @@
 -- Request P5: the margin that a tick carries, and what it leaves. Assumes nothing.
-use Rattle.laws.proofs.Base.{ℕ, _-_, _≡_, refl, sym, _∙_, subst, Bool, true, false, [], _∷_, _↔_, _⊎_, inl, inr, ⊎-map, arith}
+use Rattle.laws.proofs.Base.{ℕ, _-_, _≡_, refl, sym, _∙_, subst, Bool, true, false, [], _∷_, _↔_, inl, inr, ⊎-map, arith}
 use mathlib.Core.Logic.{Iff·trans, Iff·symm}
 use lib.IntN.{pos}
 use lib.Signed.{_<ℤ_, <ℤ-irrefl}
@@ -7,8 +7,8 @@ use Rattle.curves.specs.Pairs.{horizon, upperAt, lowerAt}
 use Rattle.curves.specs.Ticks.{then, tooMany, tooFew}
 use Rattle.curves.specs.Margins.{Margin, Tightest}
 use Rattle.curves.proofs.Asked.{no-refusal}
-use Rattle.curves.proofs.Margins.{negative-between, zero-between, tightest?, tightest-newest, tightest-negative, within-tightest}
-use Rattle.curves.proofs.Margins.{beyond-tightest}
+use Rattle.curves.proofs.Margins.{negative-between, zero-between, tightest?, tightest-exactly, tightest-newest, tightest-negative}
+use Rattle.curves.proofs.Margins.{within-tightest, beyond-tightest}
 use Rattle.history.specs.States.{View}
 use Rattle.monitor.specs.Monitoring.{MonitorView, LegalMonitor, legalMonitor?, judged, alreadyFailed, rulingOn}
 use Rattle.monitor.specs.Margins.{noMargin, carried}
@@ -29,11 +29,14 @@ pub zero-iff-on-limit : ZeroIffOnLimit
 zero-iff-on-limit p d x h = zero-between (upperAt p d) (lowerAt p d) x h
 
 -- ---- of a tick
-pub carries-tightest : CarriesTightest
-carries-tightest w x f =
+carried-tightest : (w : MonitorView) (x : ℕ) → LegalUnfailed w → Tightest (w .view .pair) (then (w .view .held) x) (carried w x)
+carried-tightest w x f =
     let found = tightest? (w .view .pair) (w .view .held) x (f .legal .given .lengths .0) in
     subst (Tightest (w .view .pair) (then (w .view .held) x))
     (carried-judged w x (f .legal) (f .mark) (found .0) (found .1)) (found .1)
+
+pub carries-tightest : CarriesTightest
+carries-tightest w x f = tightest-exactly (w .view .pair) (then (w .view .held) x) (carried w x) (carried-tightest w x f)
 
 -- A state is legal and has not failed; or it is, and has; or it is not legal.
 data Kind (w : MonitorView) : Type 0 where
@@ -79,28 +82,30 @@ negative-iff-judged-outside w x = go (kind w)
   where
     go : Kind w → (carried w x .value <ℤ pos 0) ↔ JudgedOutside w x
     go (unfailed f) =
-        Iff·trans (tightest-negative (w .view .pair) (w .view .held) x (carried w x) (carries-tightest w x f))
+        Iff·trans (tightest-negative (w .view .pair) (w .view .held) x (carried w x) (carried-tightest w x f))
         (Iff·symm (outside-iff w x f))
     go (failed l e) = nothing-negative w x (inr (judging-failed w x l e))
     go (bad n) = nothing-negative w x (inl (judging-bad w x n))
 
 pub tightest-of-whole-stream : TightestOfWholeStream
 tightest-of-whole-stream p o xs es x =
-    tightest-newest p (horizon p - 1) xs x _ (omega arith)
-    (subst (λ (v : View). Tightest (v .pair) (then (v .held) x) (carried (afterTicks (freshMonitor p) xs) x))
-    (now-view p o xs es x) (carries-tightest (afterTicks (freshMonitor p) xs) x (now-unfailed p o xs es x)))
+    let now = afterTicks (freshMonitor p) xs in
+    tightest-exactly p (then xs x) (carried now x)
+    (tightest-newest p (horizon p - 1) xs x _ (omega arith)
+    (subst (λ (v : View). Tightest (v .pair) (then (v .held) x) (carried now x))
+    (now-view p o xs es x) (carried-tightest now x (now-unfailed p o xs es x))))
 
 -- ---- what is left
 pub within-margin-neither : WithinMarginNeither
 within-margin-neither w x n f e y a b =
-    neither-iff w y f .1 (within-tightest (w .view .pair) (w .view .held) x (carried w x) (carries-tightest w x f) n e y a b)
+    neither-iff w y f .1 (within-tightest (w .view .pair) (w .view .held) x (carried w x) (carried-tightest w x f) n e y a b)
 
 pub beyond-margin-outside : BeyondMarginOutside
 beyond-margin-outside w x n f e =
     ⊎-map
     (λ (s, k). (s, λ y l. outside-iff w y f .1 (k y l)))
     (λ (s, k). (s, λ y l. outside-iff w y f .1 (k y l)))
-    (beyond-tightest (w .view .pair) (w .view .held) x (carried w x) (carries-tightest w x f) n e)
+    (beyond-tightest (w .view .pair) (w .view .held) x (carried w x) (carried-tightest w x f) n e)
 
 -- ---- any results that the promise allows
 pub ticks-carry-margins : TicksCarryMargins

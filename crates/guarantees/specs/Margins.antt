@@ -8,7 +8,7 @@ use lib.Signed.{_<ℤ_}
 use Rattle.curves.specs.Pairs.{Pair, upperAt, lowerAt}
 use Rattle.curves.specs.Conformance.{Inside}
 use Rattle.curves.specs.Ticks.{then, last}
-use Rattle.curves.specs.Margins.{marginOf, Tightest}
+use Rattle.curves.specs.Margins.{marginOf, Margin, Tightest}
 use Rattle.curves.specs.Questions.{refusal}
 use Rattle.monitor.specs.declared.Monitor.{Monitor}
 use Rattle.monitor.specs.Monitoring.{MonitorView, monitorViewOf, alreadyFailed, judging}
@@ -32,19 +32,22 @@ ZeroIffOnLimit =
 -- In a legal state that has not failed it carries the smallest margin of the judged windows of the pair as given, with the shortest
 -- window that has it, whatever it is answered.
 abbrev pub CarriesTightest : Type 0
-CarriesTightest = (w : MonitorView) (x : ℕ) → LegalUnfailed w → Tightest (w .view .pair) (then (w .view .held) x) (carried w x)
+CarriesTightest =
+    (w : MonitorView) (x : ℕ) → LegalUnfailed w → (m : Margin) → (carried w x ≡ m) ↔ Tightest (w .view .pair) (then (w .view .held) x) m
 
--- With 12 and with 'already failed' it carries 0 and 0.
+-- No window is judged: 12, or 'already failed'.
 abbrev pub Unjudged : MonitorView → ℕ → Type 0
 Unjudged w x = (judging w x ≡ refusal 12) ⊎ Answers w x alreadyFailed
 
+-- It carries 0 and 0 then.
 abbrev pub CarriesNothing : Type 0
 CarriesNothing = (w : MonitorView) (x : ℕ) → Unjudged w x → carried w x ≡ noMargin
 
 -- While every tick of an opened monitor has passed, the windows are those of the whole stream so far.
 abbrev pub TightestOfWholeStream : Type 0
 TightestOfWholeStream =
-    (p : Pair) → Opens p → (xs : List ℕ) → AllPass p xs → (x : ℕ) → Tightest p (then xs x) (carried (afterTicks (freshMonitor p) xs) x)
+    (p : Pair) → Opens p → (xs : List ℕ) → AllPass p xs → (x : ℕ) (m : Margin)
+    → (carried (afterTicks (freshMonitor p) xs) x ≡ m) ↔ Tightest p (then xs x) m
 
 -- In any state, legal or not, a negative margin and 'too many' or 'too few' go together.
 abbrev pub NegativeIffJudgedOutside : Type 0

@@ -1,4 +1,5 @@
-// Streams on opened monitors: what each tick is answered, the margin too, while the held ticks fill up and once the oldest are let go.
+// Streams on monitors as an opening hands them out, a refused one too: what each tick is answered, with its margin, while the held ticks
+// fill up and once the oldest are let go.
 use crate::numbers;
 use crate::states;
 use libc::STDOUT_FILENO;

@@ -73,8 +73,7 @@ looser-passes = refl
 abbrev has : ℕ → ℤ → Margin
 has d z = record { value = z; window = d }
 
--- The run of README: the margin falls to 0, and then it is negative. The window with the smallest margin is the third, the verdict names
--- the first.
+-- The run of README: the margin falls to 0, and then it is negative, the smallest being that of the window of three ticks.
 abbrev falling : MonitorView
 falling = let p : Pair = pairOf (10 ∷ 16 ∷ 20 ∷ []) (0 ∷ 2 ∷ 4 ∷ []) in monitorView (fresh p) p false
 

@@ -1,7 +1,7 @@
 -- Laws over plain variables for the two loops over the windows that end at a tick: what a turn of either keeps, the verdict at each way out
 -- of the judge's, and the smallest margin, which the other finds.
 -- Assumes nothing.
-use Rattle.laws.proofs.Base.{ℕ, suc, _+_, _-_, _≤_, _<_, _≡_, sym, ap, subst, List, add-one, decLt, arith, lt-ltb, le-ltb, length, getD}
+use Rattle.laws.proofs.Base.{ℕ, suc, _+_, _-_, _≤_, _<_, _≡_, sym, ap, subst, List, add-one, arith, length, getD}
 use lib.IntN.{ℤ, pos}
 use lib.Signed.{_≤ℤ_, _<ℤ_}
 use Rattle.curves.specs.Pairs.{Pair, pairOf, figure}
@@ -16,8 +16,6 @@ use Rattle.curves.proofs.Margins.{tightest-all}
 use Rattle.history.proofs.Slicing.{judged-next}
 use Rattle.history.specs.Steps.{Slices, viewWith}
 use Rattle.monitor.specs.Monitoring.{judged, verdictOn}
-use Rattle.monitor.specs.Answers.{verdictReply}
-use Rattle.monitor.specs.Steps.{outsideAs}
 
 module _ (us ls xs : List ℕ) (count : ℕ) where
   abbrev p : Pair
@@ -54,7 +52,10 @@ module _ (us ls xs : List ℕ) (count : ℕ) where
     is-judged : Judged p ys (suc d)
     is-judged = judged-next us ls xs count d S (R .held)
 
-    pub margin-is : marginAt p ys (suc d) ≡ marginBetween (getD us d 0) (getD ls d 0) s
+    abbrev here : ℤ
+    here = marginBetween (getD us d 0) (getD ls d 0) s
+
+    pub margin-is : marginAt p ys (suc d) ≡ here
     unfolding figure
     margin-is = ap (marginBetween (getD us d 0) (getD ls d 0)) window
 
@@ -73,42 +74,29 @@ module _ (us ls xs : List ℕ) (count : ℕ) where
       few l = omega (arith, window)
 
       -- The window of d + 1 ticks keeps its figures, too.
-      pub one-more : pos 0 ≤ℤ marginBetween (getD us d 0) (getD ls d 0) s → KeptTo p ys (d + 1)
+      pub one-more : pos 0 ≤ℤ here → KeptTo p ys (d + 1)
       unfolding figure
       one-more h =
           let k = left-between (getD us d 0) (getD ls d 0) s 0 .0 h in
           rw (add-one d) (kept-more p ys d K (λ j. ((λ q. omega (arith, window)), (λ q. omega (arith, window)))))
 
       -- The ways out: it is outside, or there is no tick before it.
-      found-many : getD us d 0 < s → IsAnswered (tooMany (d + 1))
+      pub found-many : getD us d 0 < s → IsAnswered (tooMany (d + 1))
       found-many l =
           rw (add-one d) (right-found (tooMany (suc d)) (shortest p ys d K is-judged (λ i. i .0 (many l)), many l))
 
-      found-few : s ≤ getD us d 0 → s < getD ls d 0 → IsAnswered (tooFew (d + 1))
+      pub found-few : here <ℤ pos 0 → s ≤ getD us d 0 → IsAnswered (tooFew (d + 1))
       unfolding figure
-      found-few m l =
+      found-few h m =
+          let f = few (below-between (getD us d 0) (getD ls d 0) s h m) in
           rw (add-one d)
-          (right-found (tooFew (suc d))
-          (shortest p ys d K is-judged (λ i. i .1 (few l)), (λ q. omega (arith, window)), few l))
+          (right-found (tooFew (suc d)) (shortest p ys d K is-judged (λ i. i .1 f), (λ q. omega (arith, window)), f))
 
-      pub found-outside : marginBetween (getD us d 0) (getD ls d 0) s <ℤ pos 0
-          → verdictReply (outsideAs (getD us d 0) s (d + 1)) ≡ result (judged (verdictOn (viewWith us ls xs) count))
-      found-outside h =
-          elim (decLt (getD us d 0) s) [
-            | yes m ↦ rw (lt-ltb (getD us d 0) s m) (found-many m)
-            | no m ↦
-                let k : s ≤ getD us d 0 = omega arith in
-                rw (le-ltb (getD us d 0) s k) (found-few k (below-between (getD us d 0) (getD ls d 0) s h k))
-          ]
-
-      pub found-none : pos 0 ≤ℤ marginBetween (getD us d 0) (getD ls d 0) s → length xs ≤ d → IsAnswered passed
+      pub found-none : pos 0 ≤ℤ here → length xs ≤ d → IsAnswered passed
       found-none h l =
           right-found passed (λ e j. one-more h e (none-longer l e j) j)
 
     -- ---- the smallest margin, over the windows of up to d + 1 ticks
-    abbrev here : ℤ
-    here = marginBetween (getD us d 0) (getD ls d 0) s
-
     abbrev pub hereOf : Margin
     hereOf = record { value = here; window = d + 1 }
 

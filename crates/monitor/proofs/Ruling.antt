@@ -22,10 +22,10 @@ use Rattle.monitor.specs.declared.Verdict.{Verdict}
 use Rattle.monitor.specs.declared.Verdict.the-variants.{Passed, TooMany, TooFew, Lost, AlreadyFailed, BadState}
 use Rattle.monitor.proofs.Verdict.{the-type}
 use Rattle.monitor.specs.Monitoring.{MonitorView, monitorView, monitorOf, monitorViewOf, closedView, LegalMonitor, verdictOn}
-use Rattle.monitor.specs.Monitoring.{judged, ruled, judging, afterPassed, MonitorNext}
+use Rattle.monitor.specs.Monitoring.{judged, lost, ruled, judging, afterPassed, MonitorNext}
 use Rattle.monitor.specs.Margins.{noMargin, carried}
 use Rattle.monitor.specs.Answers.{verdictReply}
-use Rattle.monitor.specs.Steps.{ClosedWithin, marginAs, unjudgedAs, FoundOf, RuledOf, lostUnlessPassed}
+use Rattle.monitor.specs.Steps.{ClosedWithin, marginAs, unjudgedAs, FoundOf, RuledOf}
 use Rattle.monitor.specs.Steps.{HoldsWhere, HeldMore, HeldAsFound, Held, markAfter}
 use Rattle.monitor.proofs.Said.{judging-bad, judging-failed, judging-legal, judging-unfailed}
 use Rattle.monitor.proofs.Said.{carried-bad, carried-failed, carried-judged}
@@ -35,23 +35,19 @@ use Rattle.monitor.proofs.Said.{carried-bad, carried-failed, carried-ju
 abbrev pub others : List ℕ
 others = 1 ∷ 2 ∷ 3 ∷ 4 ∷ 5 ∷ []
 
--- All others are lost, where the closed figures were judged.
-pub lost-unless : (v : Verdict) → OneOf others (tagOf the-type v) → Lost ≡ lostUnlessPassed v
-lost-unless Passed m = absurd (miss others 0 tt m)
-lost-unless (TooMany d) m = refl
-lost-unless (TooFew d) m = refl
-lost-unless Lost m = refl
-lost-unless AlreadyFailed m = refl
-lost-unless BadState m = refl
+-- By the closed figures a tick passes, or it is lost.
+ruled-passed : (v : Verdict) (u : ticks.Verdict) → v ≡ Passed → verdictReply v ≡ result (judged u)
+    → verdictReply v ≡ result (ruled ticks.passed u)
+ruled-passed v u k e = let h : ticks.passed ≡ u = cc (ap verdictReply k) in ap verdictReply k ∙ ap (λ u. result (ruled ticks.passed u)) h
 
-ruled-closed : (v : Verdict) (u : ticks.Verdict) → verdictReply v ≡ result (judged u)
-    → verdictReply (lostUnlessPassed v) ≡ result (ruled ticks.passed u)
-ruled-closed Passed u e = let h : ticks.passed ≡ u = cc in ap (λ u. result (ruled ticks.passed u)) h
-ruled-closed (TooMany d) u e = let h : ticks.tooMany d ≡ u = cc in ap (λ u. result (ruled ticks.passed u)) h
-ruled-closed (TooFew d) u e = let h : ticks.tooFew d ≡ u = cc in ap (λ u. result (ruled ticks.passed u)) h
-ruled-closed Lost u e = let z : _≡_ {A = ℕ} 0 1 = cc in absurd (omega arith)
-ruled-closed AlreadyFailed u e = let z : _≡_ {A = ℕ} 0 1 = cc in absurd (omega arith)
-ruled-closed BadState u e = let z : _≡_ {A = ℕ} 0 1 = cc in absurd (omega arith)
+ruled-lost : (v : Verdict) (u : ticks.Verdict) → OneOf others (tagOf the-type v) → verdictReply v ≡ result (judged u)
+    → result lost ≡ result (ruled ticks.passed u)
+ruled-lost Passed u m e = absurd (miss others 0 tt m)
+ruled-lost (TooMany d) u m e = let h : ticks.tooMany d ≡ u = cc in ap (λ u. result (ruled ticks.passed u)) h
+ruled-lost (TooFew d) u m e = let h : ticks.tooFew d ≡ u = cc in ap (λ u. result (ruled ticks.passed u)) h
+ruled-lost Lost u m e = let z : _≡_ {A = ℕ} 0 1 = cc in absurd (omega arith)
+ruled-lost AlreadyFailed u m e = let z : _≡_ {A = ℕ} 0 1 = cc in absurd (omega arith)
+ruled-lost BadState u m e = let z : _≡_ {A = ℕ} 0 1 = cc in absurd (omega arith)
 
 -- The margin tells which figures decide: where it is negative those as given, and else the closed ones, as the tick passes by the first.
 module _ (v v′ : View) (x : ℕ) (m : Margin) (t : Tightest (v .pair) (ticks.then (v .held) x) m) (r : Verdict) where
@@ -64,11 +60,17 @@ module _ (v v′ : View) (x : ℕ) (m : Margin) (t : Tightest (v .pair) (ticks.t
       go (ticks.tooMany d) k = refl
       go (ticks.tooFew d) k = refl
 
-  pub ruled-inside : pos 0 ≤ℤ m .value → verdictReply r ≡ result (judged (verdictOn v′ x))
-      → verdictReply (lostUnlessPassed r) ≡ result (ruled (verdictOn v x) (verdictOn v′ x))
-  ruled-inside h e =
-      let passes = verdict-is (v .pair) (ticks.then (v .held) x) ticks.passed (tightest-keeps (v .pair) (v .held) x m t h) in
-      ruled-closed r (verdictOn v′ x) e ∙ ap (λ u. result (ruled u (verdictOn v′ x))) (sym passes)
+  module _ (h : pos 0 ≤ℤ m .value) (e : verdictReply r ≡ result (judged (verdictOn v′ x))) where
+    given-passes : (u : ticks.Verdict) → result (ruled ticks.passed u) ≡ result (ruled (verdictOn v x) u)
+    given-passes u =
+        let passes = verdict-is (v .pair) (ticks.then (v .held) x) ticks.passed (tightest-keeps (v .pair) (v .held) x m t h) in
+        ap (λ given. result (ruled given u)) (sym passes)
+
+    pub ruled-inside : r ≡ Passed → verdictReply r ≡ result (ruled (verdictOn v x) (verdictOn v′ x))
+    ruled-inside k = ruled-passed r (verdictOn v′ x) k e ∙ given-passes (verdictOn v′ x)
+
+    pub ruled-lost-inside : OneOf others (tagOf the-type r) → result lost ≡ result (ruled (verdictOn v x) (verdictOn v′ x))
+    ruled-lost-inside k = ruled-lost r (verdictOn v′ x) k e ∙ given-passes (verdictOn v′ x)
 
 -- The held ticks with closed figures that are within the limit have the form of a state too: the sizes are those of the history.
 pub closed-legal : (h : History) (us ls : List ℕ) → Legal (viewOf h) → ClosedWithin (h .horizon) us ls

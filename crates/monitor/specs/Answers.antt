@@ -24,6 +24,6 @@ verdictReply Lost = result lost
 verdictReply AlreadyFailed = result alreadyFailed
 verdictReply BadState = refusal 12
 
--- What a judgement carries beside it.
+-- What a judgement carries beside its verdict.
 abbrev pub marginIn : Judgement → Margin
 marginIn r = record { value = r .margin; window = r .window }

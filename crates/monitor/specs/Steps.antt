@@ -73,19 +73,6 @@ pub record RuledOf (v v′ : View) (x : ℕ) (r : Finding) : Type 0 where
   pub answer : verdictReply (r .verdict) ≡ result (ruled (verdictOn v x) (verdictOn v′ x))
   pub margin : Tightest (v .pair) (then (v .held) x) (marginAs (r .margin))
 
--- The verdict on a tick that keeps the figures as given, from the one by the closed figures.
-abbrev pub lostUnlessPassed : Verdict → Verdict
-lostUnlessPassed Passed = Passed
-lostUnlessPassed (TooMany d) = Lost
-lostUnlessPassed (TooFew d) = Lost
-lostUnlessPassed Lost = Lost
-lostUnlessPassed AlreadyFailed = Lost
-lostUnlessPassed BadState = Lost
-
--- The verdict on a window of d ticks with the sum x that is outside its figures, the ceiling being u.
-abbrev pub outsideAs : ℕ → ℕ → ℕ → Verdict
-outsideAs u x d = cond (ltb u x) (TooMany d) (TooFew d)
-
 -- No window has a larger sum.
 abbrev pub windowLimit : ℕ
 windowLimit = maxHorizon * countLimit

@@ -10,7 +10,7 @@ ghost use Rattle.curves.specs.Questions.{result};
 ghost use Rattle.history.specs.Steps.{Slices, viewWith};
 ghost use Rattle.monitor.specs.Monitoring.{judged, verdictOn};
 ghost use Rattle.monitor.specs.Answers.{verdictReply};
-ghost use Rattle.monitor.specs.Steps.{marginAs, RuledOf, lostUnlessPassed, outsideAs, windowLimit};
+ghost use Rattle.monitor.specs.Steps.{marginAs, RuledOf, windowLimit};
 
 // What is found of a tick.
 pub(crate) struct Finding {
@@ -45,21 +45,21 @@ pub(crate) fn rule(
         let verdict = judge(upper, lower, ticks, count);
         return Finding { verdict, margin };
     }
-    let verdict = lost_unless_passed(judge(closed_upper, closed_lower, ticks, count));
-    Finding { verdict, margin }
-}
-
-// The verdict on a tick that keeps the figures as given, from the one by the closed figures.
-fn lost_unless_passed(closed: Verdict) -> Verdict
-    ensures { λ r. ⌜ r ≡ lostUnlessPassed closed ⌝ }
-{
-    match closed {
-        Verdict::Passed => Verdict::Passed,
-        _ => Verdict::Lost,
+    let closed = judge(closed_upper, closed_lower, ticks, count);
+    let Verdict::Passed = closed else {
+        return Finding {
+            verdict: Verdict::Lost,
+            margin,
+        };
+    };
+    Finding {
+        verdict: closed,
+        margin,
     }
 }
 
-// Window after window, the shortest first; `sum` has the new tick and the d before it.
+// Window after window, the shortest first; `sum` has the new tick and the d before it. Where the figures of a window cross it may be
+// outside both ways: 'too many' is looked at first.
 fn judge(upper: &[u32], lower: &[u32], ticks: &[u32], count: u32) -> Verdict
     requires { ⌜ Slices (now upper) (now lower) (now ticks) ⌝ }
     ensures { λ r. ⌜ verdictReply r
@@ -70,7 +70,10 @@ fn judge(upper: &[u32], lower: &[u32], ticks: &[u32], count: u32) -> Verdict
     let mut d = 0;
     let verdict = loop {
         if margin_between(upper[d], lower[d], sum) < 0 {
-            break outside(upper[d], sum, d + 1);
+            if (upper[d] as u64) < sum {
+                break Verdict::TooMany { window: d + 1 };
+            }
+            break Verdict::TooFew { window: d + 1 };
         }
         if held <= d {
             break Verdict::Passed;
@@ -79,17 +82,6 @@ fn judge(upper: &[u32], lower: &[u32], ticks: &[u32], count: u32) -> Verdict
         d += 1;
     };
     verdict
-}
-
-// The verdict on a window that is outside its figures. Where they cross it may be so both ways: 'too many' is looked at first.
-fn outside(ceiling: u32, sum: u64, window: usize) -> Verdict
-    ensures { λ r. ⌜ r ≡ outsideAs ceiling sum window ⌝ }
-{
-    if (ceiling as u64) < sum {
-        Verdict::TooMany { window }
-    } else {
-        Verdict::TooFew { window }
-    }
 }
 
 // The smallest margin over the same windows. A later one takes its place only where it is smaller, so the window is the shortest.

@@ -1,16 +1,15 @@
 -- `monitor::windows::judge` meets its contract: before a turn the windows of up to d ticks keep their figures.
 -- Assumes nothing.
-use Rattle.laws.proofs.Base.{_+_, _-_, _*_, _≤_, ap, _∙_, arith, needs, length, getD}
+use Rattle.laws.proofs.Base.{_+_, _-_, _*_, _≤_, arith, needs, length, getD}
 use lib.IntN.{pos}
-use lib.Signed.{_≤ℤ_}
+use lib.Signed.{_≤ℤ_, _<ℤ_}
 use Rattle.laws.proofs.Signed.{less-told, not-less-told}
 use Rattle.curves.specs.Streams.{countLimit}
 use Rattle.curves.specs.Pairs.{pairOf}
 use Rattle.curves.specs.Ticks.{then}
 use Rattle.curves.specs.Margins.{marginBetween}
 use Rattle.curves.proofs.Verdicts.{KeptTo, kept-none}
-use Rattle.monitor.specs.Answers.{verdictReply}
-use Rattle.monitor.proofs.Judging.{SummedTo, summed-none, summed-more, one-more, found-outside, found-none}
+use Rattle.monitor.proofs.Judging.{SummedTo, summed-none, summed-more, one-more, found-many, found-few, found-none}
 use Rattle.monitor.proofs.windows.judge.Statement.{statement}
 use Rattle.monitor.proofs.windows.judge.Tie as tie
 
@@ -49,20 +48,32 @@ loop-again c =
       one-more _ _ _ _ (start turn .pre) _ _ (turn .loop .inv .1) (turn .loop .inv .2) (inside (c .before .before)),
     )
 
+-- Where the window is outside, the turn's beginning, and what the test of the margin tells.
+abbrev failing : tie.After-shared-slice-known6 Inv-loop μ-loop → tie.At-loop Inv-loop μ-loop
+failing c = c .before .before .before .before .before
+
+outside : (c : tie.After-shared-slice-known6 Inv-loop μ-loop) → let turn = failing c in
+    let args = start turn .args in
+    marginBetween (getD (args .upper .now) (turn .loop .d) 0) (getD (args .lower .now) (turn .loop .d) 0) (turn .loop .sum) <ℤ pos 0
+outside c =
+    let j = c .before .before .margin-between in
+    less-told (j .result) _ (record { sfits = j .ok }) (j .ensures) (pos 0) (c .before .if1 .taken)
+
 returns : tie.Need-returns Inv-loop μ-loop
 returns c =
-    let t = c .before .before in
-    let j = t .before .margin-between in
-    let turn = t .before .before .before .before in
-    ap verdictReply (c .outside .ensures)
-    ∙ found-outside _ _ _ _ (start turn .pre) _ _ (turn .loop .inv .1) (turn .loop .inv .2)
-    (less-told (j .result) _ (record { sfits = j .ok }) (j .ensures) (pos 0) (t .if1 .taken))
+    let turn = failing (c .before) in
+    found-many _ _ _ _ (start turn .pre) _ _ (turn .loop .inv .1) (turn .loop .inv .2) (c .if2 .taken)
 
 returns-2 : tie.Need-returns-2 Inv-loop μ-loop
 returns-2 c =
+    let turn = failing (c .before) in
+    found-few _ _ _ _ (start turn .pre) _ _ (turn .loop .inv .1) (turn .loop .inv .2) (outside (c .before)) (c .if2 .left)
+
+returns-3 : tie.Need-returns-3 Inv-loop μ-loop
+returns-3 c =
     let e = c .before in
     let turn = e .before .before .before .before in
-    found-none _ _ _ _ (start turn .pre) _ _ (turn .loop .inv .1) (turn .loop .inv .2) (inside e) (c .if2 .taken)
+    found-none _ _ _ _ (start turn .pre) _ _ (turn .loop .inv .1) (turn .loop .inv .2) (inside e) (c .if3 .taken)
 
 pub judge-spec : {M : Type 1} → statement M
 judge-spec =
@@ -78,8 +89,9 @@ judge-spec =
     (λ c κs. omega (arith, start (c .before .before) .pre .within, start (c .before .before) .pre .fewer))
     (λ c. search needs)
     (λ c. search needs)
+    (λ c. omega (arith, c .shared-slice-known6 .given (failing c .loop .d)))
     (λ c. search needs)
-    (λ c κs. search needs)
+    (λ c. search needs)
     (λ c. search needs)
     (λ c. search needs)
     (λ c. search needs)
@@ -90,4 +102,5 @@ judge-spec =
     (λ c. search needs)
     loop-again
     returns
-    returns-2)
+    returns-2
+    returns-3)

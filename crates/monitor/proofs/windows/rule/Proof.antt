@@ -2,6 +2,7 @@
 -- Assumes nothing.
 use Rattle.laws.proofs.Base.{refl, needs}
 use lib.IntN.{pos}
+use lib.Signed.{_≤ℤ_}
 use mir.Syntax.{w64}
 use mir.Val.{SFits}
 use Rattle.laws.proofs.Signed.{less-told, not-less-told}
@@ -10,7 +11,7 @@ use Rattle.curves.specs.Margins.{Margin, Tightest}
 use Rattle.history.specs.States.{View}
 use Rattle.history.specs.Steps.{viewWith}
 use Rattle.monitor.specs.Steps.{marginAs}
-use Rattle.monitor.proofs.Ruling.{ruled-outside, ruled-inside}
+use Rattle.monitor.proofs.Ruling.{ruled-outside, ruled-inside, ruled-lost-inside}
 use Rattle.monitor.proofs.windows.rule.Statement.{statement}
 use Rattle.monitor.proofs.windows.rule.Tie as tie
 
@@ -46,18 +47,35 @@ returns c =
       margin = tightest t;
     }
 
+-- Where the closed figures are judged the margin is not negative.
+kept : (second : tie.After-judge2) → pos 0 ≤ℤ margin (second .before .before) .value
+kept second =
+    let t = second .before .before in
+    not-less-told (margin t .value) (margin t .value) (fits t) refl (pos 0) (second .before .if1 .left)
+
 returns-2 : tie.Need-returns-2
 returns-2 c =
     let second = c .before in
     let t = second .before .before in
     let s = start t in
-    rw (c .lost-unless-passed .ensures) (record {
+    record {
       answer =
-          ruled-inside (given s) (closed s) (s .args .count) (margin t) (tightest t) (second .judge2 .result)
-          (not-less-told (margin t .value) (margin t .value) (fits t) refl (pos 0) (second .before .if1 .left))
-          (second .judge2 .ensures);
+          ruled-lost-inside (given s) (closed s) (s .args .count) (margin t) (tightest t) (second .judge2 .result) (kept second)
+          (second .judge2 .ensures) (c .match .keys2);
       margin = tightest t;
-    })
+    }
+
+returns-3 : tie.Need-returns-3
+returns-3 c =
+    let second = c .before .before in
+    let t = second .before .before in
+    let s = start t in
+    record {
+      answer =
+          ruled-inside (given s) (closed s) (s .args .count) (margin t) (tightest t) (second .judge2 .result) (kept second)
+          (second .judge2 .ensures) (c .enum-told .given .1);
+      margin = tightest t;
+    }
 
 pub rule-spec : {M : Type 1} → statement M
 rule-spec =
@@ -67,5 +85,6 @@ rule-spec =
     (λ c κs. search needs)
     returns
     (λ c κs. search needs)
-    (λ c κs. search needs)
-    returns-2)
+    (λ c. search needs)
+    returns-2
+    returns-3)
