@@ -76,6 +76,7 @@ pub const MUTANTS: &[(Fault, &str)] = &[
     (FirstTickOnly, "monitor: the first tick judged, the rest passed"),
     (RejectedHeld, "monitor: a rejected tick held"),
     (FailedBeforeTwelve, "monitor: already failed before 12"),
+    (RefusedHandsOutPair, "monitor: a refused opening hands out the pair"),
     (NeverLost, "lost: never"),
     (LostFirst, "lost: before too many and too few"),
     (ClosedAlone, "lost: never, judged by the closed figures alone"),

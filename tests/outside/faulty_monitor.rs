@@ -201,18 +201,19 @@ impl Faulty {
         0
     }
 
-    /// A stream on an opened monitor, with the margins. A refused opening leaves nothing that a margin could be of.
+    /// A stream on the monitor that an opening hands out, with the margins. A refused one leaves nothing that a margin could be of.
     pub fn course(&self, run: &Run) -> Course {
-        match self.opened(&run.pair.upper, &run.pair.lower) {
-            Err(opening) => Course {
-                opening,
-                ticks: vec![(REFUSED + 12, Margin::default()); run.counts.len()],
-            },
-            Ok(mut monitor) => Course {
-                opening: 0,
-                ticks: run.counts.iter().map(|&count| self.whole_tick(&mut monitor, count)).collect(),
-            },
-        }
+        let given = || Figures::new(&run.pair.upper, &run.pair.lower);
+        let (opening, mut monitor) = match self.opened(&run.pair.upper, &run.pair.lower) {
+            Err(opening) if self.has(RefusedHandsOutPair) => (opening, Monitor::new(given(), given(), Vec::new())),
+            Err(opening) => {
+                let ticks = vec![(REFUSED + 12, Margin::default()); run.counts.len()];
+                return Course { opening, ticks };
+            }
+            Ok(monitor) => (0, monitor),
+        };
+        let ticks = run.counts.iter().map(|&count| self.whole_tick(&mut monitor, count)).collect();
+        Course { opening, ticks }
     }
 
     fn closed_over_limit(&self, state: &State) -> bool {
