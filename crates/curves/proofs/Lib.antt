@@ -5,6 +5,7 @@ pub mod Slack
 pub mod Sums
 pub mod Closed
 pub mod NextTick
+pub mod Highest
 pub mod Verdicts
 pub mod Margins
 pub mod Extension
@@ -20,6 +21,9 @@ mod Walkable
 pub mod Bound
 pub mod Arrival
 pub mod Closure
+pub mod Standing
+pub mod Unlimited
+pub mod Parts
 pub mod Filled
 pub mod Asked
 pub mod Computed

@@ -8,7 +8,7 @@ use Rattle.laws.proofs.Best.{min-best, max-best, fold-each, fold-both}
 use Rattle.curves.specs.Streams.{sum, countsOf}
 use Rattle.curves.specs.Pairs.{Pair, horizon, figure, upperAt, lowerAt}
 use Rattle.curves.specs.Conformance.{Inside, Conforms}
-use Rattle.curves.specs.Ticks.{then, last, Keeps, Range}
+use Rattle.curves.specs.Ticks.{then, last, Keeps, Extremes, Range}
 use Rattle.curves.proofs.Sums.{split-at, sum-start}
 use Rattle.curves.proofs.Closed.{Closed}
 use Rattle.curves.proofs.Edges.{detour}
@@ -111,25 +111,17 @@ keeps-range p xs x h = (
       ))),
 )
 
--- ---- the admissible range
-module _ (p : Pair) (xs : List ℕ) where
-  -- What lies between two counts that will do will do.
-  pub range-whole : (r : Range p xs) (x : ℕ) → Keeps p (then xs x) ↔ ((r .lo ≤ x) × (x ≤ r .hi))
-  range-whole r x = (
-    (λ k. (r .smallest x k, r .largest x k)),
-    (λ b. keeps-windows p xs x .1 (λ d u v.
-        omega (arith, keeps-windows p xs (r .lo) .0 (r .lo-keeps) d u v, keeps-windows p xs (r .hi) .0 (r .hi-keeps) d u v))),
-  )
-
-  pub range-once : (r s : Range p xs) → (r .lo ≡ s .lo) × (r .hi ≡ s .hi)
+-- ---- the smallest and the largest of some counts
+module _ {Can : ℕ → Type 0} where
+  pub range-once : (r s : Extremes Can) → (r .lo ≡ s .lo) × (r .hi ≡ s .hi)
   range-once r s = (
     omega (arith, r .smallest (s .lo) (s .lo-keeps), s .smallest (r .lo) (r .lo-keeps)),
     omega (arith, r .largest (s .hi) (s .hi-keeps), s .largest (r .hi) (r .hi-keeps)),
   )
 
-  -- Where the counts that will do are those from a to before b, there is a range exactly where a < b.
-  module _ (a b : ℕ) (h : (x : ℕ) → Keeps p (then xs x) ↔ ((a ≤ x) × (x < b))) where
-    unfoldable pub range-from : a < b → Range p xs
+  -- Where the counts are those from a to before b, there is a range exactly where a < b.
+  module _ (a b : ℕ) (h : (x : ℕ) → Can x ↔ ((a ≤ x) × (x < b))) where
+    unfoldable pub range-from : a < b → Extremes Can
     range-from l =
         record {
           lo = a;
@@ -140,8 +132,24 @@ module _ (p : Pair) (xs : List ℕ) where
           largest = λ x k. omega (arith, h x .0 k .1);
         }
 
-    pub no-range : b ≤ a → ¬ Range p xs
+    pub no-range : b ≤ a → ¬ Extremes Can
     no-range l r = omega (arith, h (r .lo) .0 (r .lo-keeps))
+
+    unfoldable pub extremes? : Dec (Extremes Can)
+    extremes? = elim (decLt a b) [ yes l ↦ yes (range-from l) | no l ↦ no (no-range (omega arith)) ]
+
+-- ---- the admissible range
+module _ (p : Pair) (xs : List ℕ) where
+  -- What lies between two counts that will do will do.
+  pub keeps-between : (a b x : ℕ) → Keeps p (then xs a) → Keeps p (then xs b) → a ≤ x → x ≤ b → Keeps p (then xs x)
+  keeps-between a b x k l u v =
+      keeps-windows p xs x .1 (λ d i j. omega (arith, keeps-windows p xs a .0 k d i j, keeps-windows p xs b .0 l d i j))
+
+  pub range-whole : (r : Range p xs) (x : ℕ) → Keeps p (then xs x) ↔ ((r .lo ≤ x) × (x ≤ r .hi))
+  range-whole r x = (
+    (λ k. (r .smallest x k, r .largest x k)),
+    (λ b. keeps-between (r .lo) (r .hi) x (r .lo-keeps) (r .hi-keeps) (b .0) (b .1)),
+  )
 
   pub keeps-has-range : 1 ≤ horizon p → (x : ℕ) → Keeps p (then xs x) → Range p xs
   keeps-has-range h x k = range-from (lo p xs) (end p xs) (λ y. keeps-range p xs y h) (omega (arith, keeps-range p xs x h .0 k))
@@ -153,12 +161,38 @@ module _ (p : Pair) (xs : List ℕ) where
   unfoldable pub range? : Dec (Range p xs)
   range? =
       elim (decLe 1 (horizon p)) [
-        | yes h ↦
-            elim (decLt (lo p xs) (end p xs)) [
-              | yes l ↦ yes (range-from (lo p xs) (end p xs) (λ x. keeps-range p xs x h) l)
-              | no l ↦ no (no-range (lo p xs) (end p xs) (λ x. keeps-range p xs x h) (omega arith))
-            ]
+        | yes h ↦ extremes? (lo p xs) (end p xs) (λ x. keeps-range p xs x h)
         | no n ↦ no (no-windows n)
+      ]
+
+  -- ---- among the counts up to n
+  pub within-iff : (n : ℕ) → 1 ≤ horizon p → (x : ℕ)
+      → (Keeps p (then xs x) × (x ≤ n)) ↔ ((lo p xs ≤ x) × (x < min (end p xs) (suc n)))
+  within-iff n h x = (
+    (λ k. let b = keeps-range p xs x h .0 (k .0) in (b .0, omega (arith, b .1, k .1))),
+    (λ b. (keeps-range p xs x h .1 (b .0, omega arith), omega arith)),
+  )
+
+  pub within-has-range : (n : ℕ) → 1 ≤ horizon p → (x : ℕ) → Keeps p (then xs x) → x ≤ n
+      → Extremes (λ x. Keeps p (then xs x) × (x ≤ n))
+  within-has-range n h x k l =
+      range-from (lo p xs) (min (end p xs) (suc n)) (within-iff n h) (omega (arith, within-iff n h x .0 (k, l)))
+
+  -- With no window at all, each of them would do.
+  unfoldable pub range-within? : (n : ℕ) → Dec (Extremes (λ x. Keeps p (then xs x) × (x ≤ n)))
+  range-within? n =
+      elim (decLe 1 (horizon p)) [
+        | yes h ↦ extremes? (lo p xs) (min (end p xs) (suc n)) (within-iff n h)
+        | no none ↦
+            let all : (x : ℕ) → Keeps p (then xs x) = λ x d j. absurd (omega (arith, none, j .positive, j .within)) in
+            yes (record {
+              lo = 0;
+              hi = n;
+              lo-keeps = (all 0, omega arith);
+              hi-keeps = (all n, le-refl n);
+              smallest = λ x k. omega arith;
+              largest = λ x k. k .1;
+            })
       ]
 
 -- ---- on a closed pair
@@ -208,4 +242,4 @@ module _ (p : Pair) (C : Closed p) (xs : List ℕ) (c : Conforms p xs) where
           (λ d u′ v′. omega (arith, pairwise d e u′ v′ u v, room e u v, room d u′ v′))
 
   pub goes-on : 1 ≤ horizon p → Range p xs
-  goes-on h = range-from p xs (lo p xs) (end p xs) (λ x. keeps-range p xs x h) (lo-end h)
+  goes-on h = range-from (lo p xs) (end p xs) (λ x. keeps-range p xs x h) (lo-end h)

@@ -50,6 +50,10 @@ lowerAt p d = figure 0 (p .lower) d
 abbrev pub Equal : Pair → Pair → Type 0
 Equal p q = Same 0 p q
 
+-- No figure of a list is above n.
+abbrev pub FiguresWithin : ℕ → List ℕ → Type 0
+FiguresWithin n us = (d : ℕ) → 1 ≤ d → d ≤ length us → figure 0 us d ≤ n
+
 -- How far the ceilings stand above the leasts, over all windows.
 abbrev pub slack : Pair → ℕ
 slack p = fold _+_ 0 (λ d. upperAt p d - lowerAt p d) (horizon p)

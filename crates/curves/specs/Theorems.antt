@@ -3,10 +3,14 @@ use Prim.Native.Nat.{ℕ, _+_, _^_, _≤_}
 use mathlib.Core.Path.{_≡_}
 use mathlib.Core.List.{List}
 use mathlib.Core.Logic.{_↔_, _⊎_}
-use Rattle.curves.specs.Pairs.{Pair, Equal, horizon, slack}
-use Rattle.curves.specs.Conformance.{Conforms, Conforms∞}
+use lib.ListN.{length}
+use Rattle.laws.specs.Tests.{Each}
+use Rattle.curves.specs.Streams.{Stream, countLimit, countsOf, sum}
+use Rattle.curves.specs.Pairs.{Pair, figure, lowerAt, Equal, FiguresWithin, horizon, slack}
+use Rattle.curves.specs.Conformance.{Conforms, Conforms∞, Extendable}
 use Rattle.curves.specs.Ticks.{then, Range}
 use Rattle.curves.specs.Rounds.{whole, cutOff, after, HasAfter, Crossed, Runs, Arrives, Crosses, Causal}
+use Rattle.curves.specs.Unlimited.{unlimited, curvesOf, LargestOverParts, sumsAfter, SuperAdditive}
 
 -- The rounds of p end with a closure.
 abbrev pub Closes : Pair → Type 0
@@ -69,3 +73,45 @@ EndsWithin p m = ((n : ℕ) × (q : Pair) × (n ≤ m) × Arrives whole p n q) �
 
 abbrev pub EndsWithinLogarithm : Type 0
 EndsWithinLogarithm = (p : Pair) (k : ℕ) → horizon p ≤ 2 ^ k → EndsWithin p (k + 1)
+
+-- ---- Unlimited pairs (request P7).
+abbrev pub leastsOnly : List ℕ → Pair
+leastsOnly ls = curvesOf (unlimited (length ls) ls)
+
+-- A stream conforms exactly when every window has its least.
+abbrev pub LeastsAlone : Type 0
+LeastsAlone =
+    (h : ℕ) (ls : List ℕ) (s : Stream)
+    → Conforms∞ (curvesOf (unlimited h ls)) (s .counts) ↔ ((i d : ℕ) → 1 ≤ d → d ≤ h → figure 0 ls d ≤ sum (s .counts) i d)
+
+-- So it is with a finite stream, where it has counts.
+abbrev pub LeastsAloneFinite : Type 0
+LeastsAloneFinite =
+    (h : ℕ) (ls xs : List ℕ) → Each (λ x. x ≤ countLimit) xs
+    → Conforms (curvesOf (unlimited h ls)) xs
+    ↔ ((i d : ℕ) → 1 ≤ d → d ≤ h → i + d ≤ length xs → figure 0 ls d ≤ sum (countsOf xs) i d)
+
+-- The rounds of leasts that are at most what a count can be are rounds of sums alone.
+abbrev pub RoundsOfSums : Type 0
+RoundsOfSums = (ls : List ℕ) (n : ℕ) → FiguresWithin countLimit ls → HasAfter whole n (leastsOnly ls) (leastsOnly (sumsAfter n ls))
+
+-- They arrive, after at most k where the horizon is at most 2^k.
+abbrev pub SumsArriveWithinLogarithm : Type 0
+SumsArriveWithinLogarithm =
+    (ls : List ℕ) (k : ℕ) → FiguresWithin countLimit ls → length ls ≤ 2 ^ k
+    → (n : ℕ) × (n ≤ k) × Arrives whole (leastsOnly ls) n (leastsOnly (sumsAfter n ls))
+
+-- At the largest sums of leasts over parts of the window.
+abbrev pub ArrivesAtLargest : Type 0
+ArrivesAtLargest =
+    (ls : List ℕ) (n : ℕ) (q : Pair) → FiguresWithin countLimit ls → Arrives whole (leastsOnly ls) n q
+    → (d : ℕ) → 1 ≤ d → d ≤ length ls → LargestOverParts ls d (lowerAt q d)
+
+-- It is its own closure exactly when no least is below the sum of those of two parts.
+abbrev pub CausalIffSuperAdditive : Type 0
+CausalIffSuperAdditive = (ls : List ℕ) → FiguresWithin countLimit ls → Causal (leastsOnly ls) ↔ SuperAdditive ls
+
+-- Closed or not, what conforms is extendable.
+abbrev pub LeastsExtendable : Type 0
+LeastsExtendable =
+    (ls : List ℕ) (xs : List ℕ) → 1 ≤ length ls → FiguresWithin countLimit ls → Conforms (leastsOnly ls) xs → Extendable (leastsOnly ls) xs

@@ -46,11 +46,15 @@ Right p xs passed = Keeps p xs
 Right p xs (tooMany d) = Shortest p xs d × TooMany p d (last xs d)
 Right p xs (tooFew d) = Shortest p xs d × (¬ TooMany p d (last xs d)) × TooFew p d (last xs d)
 
--- The admissible range after xs: the smallest and the largest count that the next tick can have.
-pub record Range (p : Pair) (xs : List ℕ) : Type 0 where
+-- The smallest and the largest of the counts of which `Can` holds.
+pub record Extremes (Can : ℕ → Type 0) : Type 0 where
   pub lo : ℕ
   pub hi : ℕ
-  pub lo-keeps : Keeps p (then xs lo)
-  pub hi-keeps : Keeps p (then xs hi)
-  pub smallest : (x : ℕ) → Keeps p (then xs x) → lo ≤ x
-  pub largest : (x : ℕ) → Keeps p (then xs x) → x ≤ hi
+  pub lo-keeps : Can lo
+  pub hi-keeps : Can hi
+  pub smallest : (x : ℕ) → Can x → lo ≤ x
+  pub largest : (x : ℕ) → Can x → x ≤ hi
+
+-- The admissible range after xs: the smallest and the largest count that the next tick can have.
+abbrev pub Range : Pair → List ℕ → Type 0
+Range p xs = Extremes (λ x. Keeps p (then xs x))
