@@ -1,22 +1,47 @@
 -- Laws over plain variables that the functions' proofs cite.
 -- Assumes nothing.
-use Rattle.laws.proofs.Base.{ℕ, zero, suc, _≤_, _<_, _≡_, Bool, List, arith, length, getD}
+use Rattle.laws.proofs.Base.{ℕ, zero, suc, _≤_, _<_, _≡_, ap, Bool, true, false, List, _↔_, arith, length, getD}
 use Rattle.laws.specs.Tests.{Tells}
 use Rattle.laws.proofs.Tests.{tells-same}
-use Rattle.curves.specs.Pairs.{figure}
-use Rattle.bounds.specs.Bounds.{figureLimit, Bounded}
+use Rattle.curves.specs.Pairs.{figure, FiguresWithin}
+use Rattle.curves.specs.Unlimited.{withMark, AllWithin}
+use Rattle.curves.proofs.Highest.{horizon-with, lower-with}
+use Rattle.bounds.specs.Bounds.{maxHorizon, question1, question2}
 
-abbrev pub Within : List ℕ → ℕ → Type 0
-Within us k = getD us k 0 ≤ figureLimit
+abbrev pub Within : ℕ → List ℕ → ℕ → Type 0
+Within n us k = getD us k 0 ≤ n
 
 -- What is told of the entries is told of the figures.
-pub within-told : (us : List ℕ) (i : ℕ) (b : Bool) → i ≡ length us → Tells b ((k : ℕ) → k < i → Within us k) → Tells b (Bounded us)
+pub within-told : (n : ℕ) (us : List ℕ) (i : ℕ) (b : Bool) → i ≡ length us → Tells b ((k : ℕ) → k < i → Within n us k)
+    → Tells b (FiguresWithin n us)
 unfolding figure
-within-told us i b e t = tells-same b (there, back) t
+within-told n us i b e t = tells-same b (there, back) t
   where
-    there : ((k : ℕ) → k < i → Within us k) → Bounded us
+    there : ((k : ℕ) → k < i → Within n us k) → FiguresWithin n us
     there h zero u v = absurd (omega arith)
     there h (suc d) u v = h d (omega arith)
 
-    back : Bounded us → (k : ℕ) → k < i → Within us k
+    back : FiguresWithin n us → (k : ℕ) → k < i → Within n us k
     back h k l = h (suc k) (omega arith) (omega arith)
+
+-- ---- the figures of two lists and a mark
+pub told-unlimited : (n : ℕ) (us ls : List ℕ) (b r : Bool) → b ≡ true → Tells r (FiguresWithin n ls)
+    → Tells r (AllWithin n (withMark us ls b))
+told-unlimited n us ls b r e t = rw e t
+
+pub told-limited : (n : ℕ) (us ls : List ℕ) (b r : Bool) → b ≡ false → Tells r (FiguresWithin n us × FiguresWithin n ls)
+    → Tells r (AllWithin n (withMark us ls b))
+told-limited n us ls b r e t = rw e t
+
+-- ---- questions 1 and 2 of them
+pub lengths-with : (us ls : List ℕ) (b : Bool) → 1 ≤ length us → length us ≤ maxHorizon → question1 (withMark us ls b) .asked
+lengths-with us ls b h k = let e = horizon-with us ls b in (omega (arith, e), omega (arith, e))
+
+pub no-lengths-with : (us ls : List ℕ) (b : Bool) → ¬ ((1 ≤ length us) × (length us ≤ maxHorizon)) → ¬ question1 (withMark us ls b) .asked
+no-lengths-with us ls b n y = let e = horizon-with us ls b in n (omega (arith, e, y .0), omega (arith, e, y .1))
+
+pub even-with : (us ls : List ℕ) (b : Bool) → (question2 (withMark us ls b) .asked) ↔ (length ls ≡ length us)
+even-with us ls b =
+    let e = horizon-with us ls b in
+    let f = ap length (lower-with us ls b) in
+    ((λ q. omega arith), (λ q. omega arith))

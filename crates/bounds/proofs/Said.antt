@@ -1,6 +1,6 @@
 -- What `asking` says, case by case: all questions are answered yes, or one is the first that is answered no. Assumes nothing.
 use Rattle.laws.proofs.Base.{ℕ, _≡_, refl, sym, List, [], _∷_, _++_, inl}
-use Rattle.curves.specs.Pairs.{Pair}
+use Rattle.curves.specs.Unlimited.{AnyPair}
 use Rattle.curves.specs.Questions.{Question, AllYes, FirstNo, Reply, result, refusal, replyTo}
 use Rattle.curves.proofs.Asked.{yes-append, yes-parts, no-before, no-after, said-no, said-yes, refusal-iff, result-from}
 use Rattle.bounds.specs.declared.Asked.{Asked}
@@ -8,7 +8,7 @@ use Rattle.bounds.specs.declared.Asked.the-variants.{Passes, UpperLength
 use Rattle.bounds.specs.Bounds.{pairQuestions, asking}
 use Rattle.bounds.specs.Answers.{askedReply}
 
-module _ (p : Pair) where
+module _ (p : AnyPair) where
   pub asking-yes : AllYes (pairQuestions p) → result tt ≡ asking p
   unfolding asking
   asking-yes ys = sym (said-yes (pairQuestions p) _ _ (result tt) ys (λ _. refl))
@@ -39,7 +39,7 @@ module _ (p : Pair) where
   found FigureLimit e = no-from 4 (sym e)
 
 -- ---- one question asked after them
-module _ (p : Pair) (more : Question) where
+module _ (p : AnyPair) (more : Question) where
   abbrev questions : List Question
   questions = pairQuestions p ++ (more ∷ [])
 

@@ -6,7 +6,8 @@ use mathlib.Core.Logic.{Dec·and}
 use native.Mathlib.Decide.{decLe, ℕ-discrete}
 use lib.ListN.{length}
 use Rattle.laws.proofs.Search.{every?}
-use Rattle.curves.specs.Pairs.{Pair, horizon, figure}
+use Rattle.curves.specs.Pairs.{Pair, horizon, figure, FiguresWithin}
+use Rattle.curves.specs.Unlimited.{AnyPair, limited, unlimited, curvesOf, AllWithin}
 use Rattle.curves.specs.Questions.{Question, Reply, replyTo}
 
 -- The longest horizon.
@@ -19,39 +20,41 @@ figureLimit = 16_776_960
 
 -- No figure of a list is above the limit.
 abbrev pub Bounded : List ℕ → Type 0
-Bounded us = (d : ℕ) → 1 ≤ d → d ≤ length us → figure 0 us d ≤ figureLimit
+Bounded us = FiguresWithin figureLimit us
 
-abbrev pub bounded? : (us : List ℕ) → Dec (Bounded us)
-bounded? us = every? (λ d. figure 0 us d ≤ figureLimit) (length us) (λ d. decLe (figure 0 us d) figureLimit)
+-- Whether a figure is above a limit can be decided, of a list and of a pair.
+abbrev pub within? : (n : ℕ) (us : List ℕ) → Dec (FiguresWithin n us)
+within? n us = every? (λ d. figure 0 us d ≤ n) (length us) (λ d. decLe (figure 0 us d) n)
+
+abbrev pub allWithin? : (n : ℕ) (p : AnyPair) → Dec (AllWithin n p)
+allWithin? n (limited p) = Dec·and (within? n (p .upper)) (within? n (p .lower))
+allWithin? n (unlimited h ls) = within? n ls
 
 -- 1. The upper list (ceilings) has 1 to 256 entries.
-abbrev pub question1 : Pair → Question
+abbrev pub question1 : AnyPair → Question
 question1 p =
-    record {
-      number = 1;
-      asked = (1 ≤ horizon p) × (horizon p ≤ maxHorizon);
-      answered = Dec·and (decLe 1 (horizon p)) (decLe (horizon p) maxHorizon);
-    }
+    let h : ℕ = horizon (curvesOf p) in
+    record { number = 1; asked = (1 ≤ h) × (h ≤ maxHorizon); answered = Dec·and (decLe 1 h) (decLe h maxHorizon) }
 
 -- 2. The lower list (leasts) has as many.
-abbrev pub question2 : Pair → Question
-question2 p = record { number = 2; asked = length (p .lower) ≡ horizon p; answered = ℕ-discrete (length (p .lower)) (horizon p) }
+abbrev pub question2 : AnyPair → Question
+question2 p =
+    let (h, l) : ℕ × ℕ = (horizon (curvesOf p), length (curvesOf p .lower)) in
+    record { number = 2; asked = l ≡ h; answered = ℕ-discrete l h }
 
--- 4. No figure is above the limit.
-abbrev pub question4 : Pair → Question
-question4 p =
-    record {
-      number = 4;
-      asked = Bounded (p .upper) × Bounded (p .lower);
-      answered = Dec·and (bounded? (p .upper)) (bounded? (p .lower));
-    }
+-- 4. No figure is above a limit. It is 16,776,960, but for closing an unlimited pair.
+abbrev pub question4At : ℕ → AnyPair → Question
+question4At n p = record { number = 4; asked = AllWithin n p; answered = allWithin? n p }
+
+abbrev pub question4 : AnyPair → Question
+question4 p = question4At figureLimit p
 
 -- Those of an operation that lends no lists for results.
-abbrev pub pairQuestions : Pair → List Question
+abbrev pub pairQuestions : AnyPair → List Question
 pairQuestions p = question1 p ∷ question2 p ∷ question4 p ∷ []
 
 -- What asking them answers: nothing more, or the refusal with the number of the first that is answered no.
-unfoldable pub asking : Pair → Reply (Unit {0})
+unfoldable pub asking : AnyPair → Reply (Unit {0})
 asking p = replyTo (pairQuestions p) (λ _. tt)
 
 -- Two lists that are lent for results, as found, have room for a pair with the horizon h (questions 3 and 11).

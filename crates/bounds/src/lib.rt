@@ -2,7 +2,8 @@
 
 ghost use mathlib.Core.Path.{_≡_};
 ghost use Rattle.laws.specs.Tests.{Tells};
-ghost use Rattle.curves.specs.Pairs.{pairOf};
+ghost use Rattle.curves.specs.Pairs.{FiguresWithin};
+ghost use Rattle.curves.specs.Unlimited.{withMark, AllWithin};
 ghost use Rattle.bounds.specs.Bounds.{Bounded, asking};
 ghost use Rattle.bounds.specs.Answers.{askedReply};
 
@@ -18,13 +19,13 @@ pub enum Asked {
     UpperLength,
     // 2: the lower list has another length.
     LowerLength,
-    // 4: a figure is above 16,776,960.
+    // 4: a figure is above 16,776,960; without ceilings, a least is.
     FigureLimit,
 }
 
-// Asks them of the pair of `upper` (ceilings) and `lower` (leasts).
-pub fn ask(upper: &[u32], lower: &[u32]) -> Asked
-    ensures { λ r. ⌜ askedReply r ≡ asking (pairOf (now (upper .entry)) (now (lower .entry))) ⌝ }
+// Asks them of the pair of `upper` (ceilings) and `lower` (leasts); without ceilings, `upper` gives the horizon alone.
+pub fn ask(upper: &[u32], lower: &[u32], unlimited: bool) -> Asked
+    ensures { λ r. ⌜ askedReply r ≡ asking (withMark (now (upper .entry)) (now (lower .entry)) unlimited) ⌝ }
 {
     let horizon = upper.len();
     if horizon < 1 {
@@ -36,21 +37,37 @@ pub fn ask(upper: &[u32], lower: &[u32]) -> Asked
     if lower.len() != horizon {
         return Asked::LowerLength;
     }
-    if !(within_limit(upper) & within_limit(lower)) {
+    if !all_within(upper, lower, unlimited, FIGURE_LIMIT) {
         return Asked::FigureLimit;
     }
     Asked::Passes
 }
 
-// Whether no figure of a list is above 16,776,960, as questions 4 and 12 ask of both curves. Without an early way out the compiler can take
-// several figures a turn.
+// Whether no figure of a pair is above a limit, as questions 4 and 12 ask; without ceilings, no least.
+pub fn all_within(upper: &[u32], lower: &[u32], unlimited: bool, limit: u32) -> bool
+    ensures { λ r. ⌜ Tells r (AllWithin limit (withMark (now (upper .entry)) (now (lower .entry)) unlimited)) ⌝ }
+{
+    if unlimited {
+        return within(lower, limit);
+    }
+    within(upper, limit) & within(lower, limit)
+}
+
+// Whether no figure of a list is above 16,776,960.
 pub fn within_limit(figures: &[u32]) -> bool
     ensures { λ r. ⌜ Tells r (Bounded (now (figures .entry))) ⌝ }
+{
+    within(figures, FIGURE_LIMIT)
+}
+
+// Whether no figure of a list is above a limit. Without an early way out the compiler can take several figures a turn.
+fn within(figures: &[u32], limit: u32) -> bool
+    ensures { λ r. ⌜ Tells r (FiguresWithin limit (now (figures .entry))) ⌝ }
 {
     let mut within = true;
     let mut i = 0;
     while i < figures.len() {
-        within = within & (figures[i] <= FIGURE_LIMIT);
+        within = within & (figures[i] <= limit);
         i += 1;
     }
     within

@@ -13,5 +13,6 @@ mod Tightening
 mod Rounding
 mod Running
 mod Progress
+mod StandIns
 mod Answered
 mod Examples

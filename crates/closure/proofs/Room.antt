@@ -6,6 +6,7 @@ use types.Run.{OneOf, miss}
 use denote.Enum.Declared.{tagOf}
 use Rattle.curves.specs.Pairs.{Pair, pairOf, horizon}
 use Rattle.curves.specs.Rounds.{whole, Arrives}
+use Rattle.curves.specs.Unlimited.{AnyPair, limited, curvesOf}
 use Rattle.curves.specs.Questions.{AllYes, FirstNo}
 use Rattle.curves.specs.Theorems.{Closes}
 use Rattle.bounds.specs.Bounds.{maxHorizon, pairQuestions, RoomFor}
@@ -16,22 +17,25 @@ use Rattle.closure.specs.Closing.{closingQuestions, ClosingAnswer, closi
 use Rattle.closure.specs.Answers.{closingAnswer}
 use Rattle.closure.specs.Theorems.{PassesFour, GivesClosure, closureOf, room}
 use Rattle.closure.proofs.Said.{refused-is, closed-is, cases, gives-passes}
-use Rattle.closure.proofs.Given.{arrived}
+use Rattle.closure.proofs.Given.{own-fourth, arrived}
 
 -- ---- the pair's own questions among closing's first four
-pub four-yes : (p found : Pair) → AllYes (pairQuestions p) → RoomFor (horizon p) found → PassesFour p found
-four-yes p found ys wide = (ys .0, (ys .1 .0, (wide, (ys .1 .1 .0, tt))))
+pub four-yes : (c found : Pair) → AllYes (pairQuestions (limited c)) → RoomFor (horizon c) found → PassesFour (limited c) found
+four-yes c found ys wide = (ys .0, (ys .1 .0, (wide, (ys .1 .1 .0, tt))))
 
-pub own-yes : (p found : Pair) → PassesFour p found → AllYes (pairQuestions p)
-own-yes p found ok = (ok .0, (ok .1 .0, (ok .1 .1 .1 .0, tt)))
+pub own-yes : (p : AnyPair) (found : Pair) → PassesFour p found → AllYes (pairQuestions p)
+own-yes p found ok = (ok .0, (ok .1 .0, (own-fourth p (ok .1 .1 .1 .0), tt)))
 
--- ---- with room for every closure
-module _ (p : Pair) where
-  wide : horizon p ≤ maxHorizon → RoomFor (horizon p) room
+-- ---- with room for every closure, of a pair with ceilings
+module _ (c : Pair) where
+  abbrev p : AnyPair
+  p = limited c
+
+  wide : horizon c ≤ maxHorizon → RoomFor (horizon c) room
   wide h = let l = length-replicate {A = ℕ} maxHorizon 0 in (omega arith, omega arith)
 
   pub room-passes : AllYes (pairQuestions p) → PassesFour p room
-  room-passes ys = four-yes p room ys (wide (ys .0 .1))
+  room-passes ys = four-yes c room ys (wide (ys .0 .1))
 
   -- Lists of zeros, lent for results, are such room.
   pub in-zeros : (a : ClosingAnswer) (us ls : List ℕ) → us ≡ replicate maxHorizon 0 → ls ≡ replicate maxHorizon 0
@@ -40,16 +44,16 @@ module _ (p : Pair) where
 
   -- ---- what each answer tells of the pair
   abbrev pub Told : Closing → Type 0
-  Told (Closed n) = AllYes (pairQuestions p) × ((q : Pair) × Arrives whole p n q)
+  Told (Closed n b) = AllYes (pairQuestions p) × ((q : Pair) × Arrives whole c n q)
   Told UpperLength = FirstNo (pairQuestions p) 1
   Told LowerLength = FirstNo (pairQuestions p) 2
   Told ResultLength = ⊥
   Told FigureLimit = FirstNo (pairQuestions p) 4
-  Told NoClosure = AllYes (pairQuestions p) × (¬ Closes p)
+  Told NoClosure = AllYes (pairQuestions p) × (¬ Closes c)
 
   -- n is the first no of the pair's own questions, or these are all answered yes and it is 5.
   abbrev No : ℕ → Type 0
-  No n = FirstNo (pairQuestions p) n ⊎ ((n ≡ 5) × AllYes (pairQuestions p) × (¬ Closes p))
+  No n = FirstNo (pairQuestions p) n ⊎ ((n ≡ 5) × AllYes (pairQuestions p) × (¬ Closes c))
 
   no-three : (n : ℕ) → FirstNo (closingQuestions p room) n → No n
   no-three n (inl a) = inl (inl a)
@@ -76,14 +80,17 @@ module _ (p : Pair) where
   own-no : (n : ℕ) → 1 ≤ n → ¬ (n ≡ 5) → n ≡ closing p room .number → FirstNo (pairQuestions p) n
   own-no n h other e = ⊎-elim (λ f. f) (λ (five, ys, no₅). absurd (other five)) (no-numbered n h e)
 
-  fifth-no : 5 ≡ closing p room .number → AllYes (pairQuestions p) × (¬ Closes p)
+  fifth-no : 5 ≡ closing p room .number → AllYes (pairQuestions p) × (¬ Closes c)
   fifth-no e = ⊎-elim (λ f. absurd (own-numbers 5 f .1 refl)) (λ (five, ys, no₅). (ys, no₅)) (no-numbered 5 (omega arith) e)
 
-  pub told : (c : Closing) (left : Pair) → closingAnswer c left ≡ closing p room → Told c
-  told (Closed n) left e =
+  pub told : (r : Closing) (left : Pair) → closingAnswer r left ≡ closing p room → Told r
+  told (Closed n b) left e =
       let g : GivesClosure p room = sym (ap (λ a. a .number) e) in (
         own-yes p room (gives-passes p room g .0),
-        (closureOf p room, subst (λ m. Arrives whole p m (closureOf p room)) (sym (ap (λ a. a .rounds) e)) (arrived p room g)),
+        (
+          curvesOf (closureOf p room),
+          subst (λ m. Arrives whole c m (curvesOf (closureOf p room))) (sym (ap (λ a. a .rounds) e)) (arrived p room g),
+        ),
       )
   told UpperLength left e = own-no 1 (omega arith) (λ z. omega arith) (ap (λ a. a .number) e)
   told LowerLength left e = own-no 2 (omega arith) (λ z. omega arith) (ap (λ a. a .number) e)
@@ -93,7 +100,7 @@ module _ (p : Pair) where
 
 -- An arm for the cases that are left when 1, 2, 4 and the closure have theirs.
 pub others : (P : Closing → Type 0) → P ResultLength → P NoClosure → (c : Closing) → OneOf (3 ∷ 5 ∷ []) (tagOf the-closing.the-type c) → P c
-others P a b (Closed n) m = absurd (miss (3 ∷ 5 ∷ []) 0 tt m)
+others P a b (Closed n d) m = absurd (miss (3 ∷ 5 ∷ []) 0 tt m)
 others P a b UpperLength m = absurd (miss (3 ∷ 5 ∷ []) 1 tt m)
 others P a b LowerLength m = absurd (miss (3 ∷ 5 ∷ []) 2 tt m)
 others P a b ResultLength m = a

@@ -1,14 +1,18 @@
 -- The sums and differences of every round that is run keep their limits. Assumes nothing.
-use Rattle.laws.proofs.Base.{ℕ, zero, suc, _+_, _≤_, sym, subst, ⊎-elim, arith}
+use Rattle.laws.proofs.Base.{ℕ, zero, suc, _+_, _*_, _≤_, sym, subst, subst⁻¹, List, ⊎-elim, decLt, arith, length}
 use lib.IntN.{ℤ, pos, _+ℤ_}
 use Rattle.laws.proofs.Whole.{le-parts, parts-le, minus-above, above-minus}
-use Rattle.curves.specs.Pairs.{Curves, Pair, horizon, upperAt, lowerAt}
+use Rattle.laws.proofs.Table.{length-table}
+use Rattle.curves.specs.Pairs.{Curves, Pair, horizon, figure, upperAt, lowerAt, FiguresWithin}
+use Rattle.curves.specs.Unlimited.{sumsAfter}
 use Rattle.curves.specs.Rounds.{whole, cutOff, figuresOf, after, round, Crossed}
 use Rattle.curves.proofs.Figures.{given-horizon, given-upper, given-lower, round-horizon}
 use Rattle.curves.proofs.Tightened.{below, upper-falls}
 use Rattle.curves.proofs.Agreement.{agree, tied}
-use Rattle.bounds.specs.Bounds.{figureLimit, Bounded}
-use Rattle.closure.specs.Widths.{sumLimit, HalfWidth, RoundsAreHalfWidth}
+use Rattle.curves.proofs.Standing.{sums-length, standing-upper, standing-after, standing-uncrossed}
+use Rattle.bounds.specs.Bounds.{maxHorizon, figureLimit, Bounded}
+use Rattle.closure.specs.Closing.{leastLimit}
+use Rattle.closure.specs.Widths.{sumLimit, HalfWidth, RoundsAreHalfWidth, SumsAreHalfWidth}
 
 -- ---- of one pair: its figures are within the limit, and so its sums and differences within twice that and above minus that
 module _ (p : Pair) where
@@ -90,3 +94,26 @@ rounds-are-half-width p n b (runs, uncrossed) =
     (small-half c (λ d u v. (ceilings p b n d u v, omega (arith, ceilings p b n d u v, below c ok d v)))))
     (λ x. absurd (uncrossed (x .0)))
     (agree p n)
+
+-- ---- leasts without ceilings
+-- None comes above the ceilings that can stand in the place of missing ones.
+sums-small : (ls : List ℕ) (n : ℕ) → length ls ≤ maxHorizon → FiguresWithin leastLimit ls → (d : ℕ) → 1 ≤ d → d ≤ length ls
+    → figure 0 (sumsAfter n ls) d ≤ figureLimit
+sums-small ls n h w d u v =
+    elim (decLt (d * leastLimit) (figure 0 (sumsAfter n ls) d)) [
+      | yes l ↦
+          let e = sums-length n ls in
+          let at : d ≤ length (sumsAfter n ls) = omega arith in
+          absurd (standing-uncrossed leastLimit ls w n
+          (subst⁻¹ (λ (c : Pair). Crossed cutOff c) (standing-after leastLimit ls w n)
+          (record {
+            window = d;
+            positive = u;
+            within = rw (length-table (λ k. k * leastLimit) (length (sumsAfter n ls))) at;
+            above = rw (standing-upper leastLimit (sumsAfter n ls) d at) l;
+          })))
+      | no l ↦ omega arith
+    ]
+
+pub sums-are-half-width : SumsAreHalfWidth
+sums-are-half-width ls n h w a b u v u′ v′ = omega (arith, sums-small ls n h w a u v, sums-small ls n h w b u′ v′)

@@ -1,14 +1,17 @@
 -- What the private functions of this crate promise each other. `close`'s promise cites nothing of it.
 use Prim.Native.Nat.{ℕ, _+_, _-_, _≤_, _<_, min}
 use mathlib.Core.Path.{_≡_}
-use mathlib.Core.Bool.{Bool}
+use mathlib.Core.Bool.{Bool, true, false}
 use mathlib.Core.List.{List, [], _∷_}
 use lib.ListN.{length, getD}
 use Rattle.laws.specs.Ranges.{fold, table}
 use Rattle.laws.specs.Tests.{Tells, Each}
-use Rattle.curves.specs.Pairs.{Pair, horizon, figure}
+use Rattle.curves.specs.Pairs.{Pair, pairOf, horizon, figure, FiguresWithin}
 use Rattle.curves.specs.Rounds.{whole, cutOff, round, figuresOf, Arrives, Crosses}
-use Rattle.bounds.specs.Bounds.{maxHorizon, figureLimit, question4}
+use Rattle.curves.specs.Unlimited.{limited, AllWithin}
+use Rattle.curves.specs.Theorems.{leastsOnly}
+use Rattle.bounds.specs.Bounds.{maxHorizon, figureLimit}
+use Rattle.closure.specs.Closing.{leastLimit}
 use Rattle.closure.specs.Widths.{sumLimit, EveryTwo, HalfWidth}
 use Rattle.closure.specs.declared.Closing.{Closing}
 use Rattle.closure.specs.declared.Closing.the-variants as closing
@@ -128,7 +131,7 @@ tightened own other H = deconvolved own other (convolved own (begun own H))
 -- ---- the rounds
 -- The lists that rounds are run for: of at most 256 entries, and no figure is above the limit.
 abbrev pub Sized : Pair → Pair → Type 0
-Sized p found = SameLengths p found × (question4 p .asked)
+Sized p found = SameLengths p found × AllWithin figureLimit (limited p)
 
 abbrev pub Fit : Pair → Pair → Type 0
 Fit p found = (horizon p ≤ maxHorizon) × Sized p found
@@ -145,14 +148,47 @@ Stopped p Crossed q = (n : ℕ) × Crosses cutOff p n
 
 -- The held pair is put into the lent lists, or these stay as found; and what is answered.
 abbrev pub ClosureDelivered : Stop → Pair → Pair → Closing → Pair → Type 0
-ClosureDelivered (Settled n) held found r left = (r ≡ closing.Closed n) × (left ≡ held)
+ClosureDelivered (Settled n) held found r left = (r ≡ closing.Closed n false) × (left ≡ held)
 ClosureDelivered Crossed held found r left = (r ≡ closing.NoClosure) × (left ≡ found)
 
 -- How the rounds of p end, as closing answers it, with the lent lists as found and as left.
 abbrev pub Ended : Pair → Closing → Pair → Pair → Type 0
-Ended p (closing.Closed n) found left = Arrives cutOff p n left
+Ended p (closing.Closed n b) found left = (b ≡ false) × Arrives cutOff p n left
 Ended p closing.UpperLength found left = ⊥
 Ended p closing.LowerLength found left = ⊥
 Ended p closing.ResultLength found left = ⊥
 Ended p closing.FigureLimit found left = ⊥
 Ended p closing.NoClosure found left = ((n : ℕ) × Crosses cutOff p n) × (left ≡ found)
+
+-- ---- without ceilings
+-- What question 4 asks of a figure, by the mark.
+abbrev pub limitFor : Bool → ℕ
+limitFor true = leastLimit
+limitFor false = figureLimit
+
+-- Leasts, and a list for the closed ones.
+pub record LeastsFit (ls found : List ℕ) : Type 0 where
+  pub short : length ls ≤ maxHorizon
+  pub within : FiguresWithin leastLimit ls
+  pub room : length found ≡ length ls
+
+-- How their rounds end: they always arrive.
+abbrev pub LeastsEnded : List ℕ → Closing → List ℕ → Type 0
+LeastsEnded ls (closing.Closed n b) left = (b ≡ true) × ((us : List ℕ) × Arrives whole (leastsOnly ls) n (pairOf us left))
+LeastsEnded ls closing.UpperLength left = ⊥
+LeastsEnded ls closing.LowerLength left = ⊥
+LeastsEnded ls closing.ResultLength left = ⊥
+LeastsEnded ls closing.FigureLimit left = ⊥
+LeastsEnded ls closing.NoClosure left = ⊥
+
+abbrev pub unlimitedAs : Closing → Closing
+unlimitedAs (closing.Closed n b) = closing.Closed n true
+unlimitedAs closing.UpperLength = closing.UpperLength
+unlimitedAs closing.LowerLength = closing.LowerLength
+unlimitedAs closing.ResultLength = closing.ResultLength
+unlimitedAs closing.FigureLimit = closing.FigureLimit
+unlimitedAs closing.NoClosure = closing.NoClosure
+
+-- No two parts of the window of i + 1 ticks have more together than it has: parts of a + 1 and i − a ticks.
+abbrev pub ReachesParts : List ℕ → ℕ → Type 0
+ReachesParts ls i = (a : ℕ) → a < i → getD ls a 0 + getD ls (i - 1 - a) 0 ≤ getD ls i 0

@@ -1,10 +1,14 @@
 -- How large the sums and differences of a round can be (request P6), over document 01's whole numbers.
-use Prim.Native.Nat.{ℕ, _≤_}
+use Prim.Native.Nat.{ℕ, _+_, _≤_}
+use mathlib.Core.List.{List}
 use lib.IntN.{ℤ, pos, negℤ, _+ℤ_, _-ℤ_}
+use lib.ListN.{length}
 use lib.Signed.{_≤ℤ_}
-use Rattle.curves.specs.Pairs.{Curves, Pair, horizon, figure}
+use Rattle.curves.specs.Pairs.{Curves, Pair, horizon, figure, FiguresWithin}
+use Rattle.curves.specs.Unlimited.{sumsAfter}
 use Rattle.curves.specs.Rounds.{whole, after, Runs, Crossed}
-use Rattle.bounds.specs.Bounds.{figureLimit, Bounded}
+use Rattle.bounds.specs.Bounds.{maxHorizon, figureLimit, Bounded}
+use Rattle.closure.specs.Closing.{leastLimit}
 
 -- Twice the largest figure.
 abbrev pub sumLimit : ℕ
@@ -31,3 +35,9 @@ RunAfter p n = Runs whole p n × ¬ Crossed whole (after whole n p)
 -- given is question 4 of its ceilings: where a round is run, no least is above its ceiling.
 abbrev pub RoundsAreHalfWidth : Type 0
 RoundsAreHalfWidth = (p : Pair) (n : ℕ) → Bounded (p .upper) → RunAfter p n → HalfWidth (after whole n p)
+
+-- ---- Nor does a sum of two leasts without ceilings (request P7), after any number of rounds: differences are none of theirs.
+abbrev pub SumsAreHalfWidth : Type 0
+SumsAreHalfWidth =
+    (ls : List ℕ) (n : ℕ) → length ls ≤ maxHorizon → FiguresWithin leastLimit ls
+    → EveryTwo (length ls) (λ a b. figure 0 (sumsAfter n ls) a + figure 0 (sumsAfter n ls) b ≤ sumLimit)

@@ -88,7 +88,10 @@ fn deliver(
         Stop::Settled { rounds } => {
             lists::copy(held_upper, closed_upper);
             lists::copy(held_lower, closed_lower);
-            Closing::Closed { rounds }
+            Closing::Closed {
+                rounds,
+                unlimited: false,
+            }
         }
         Stop::Crossed => Closing::NoClosure,
     }

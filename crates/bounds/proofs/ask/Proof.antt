@@ -1,44 +1,58 @@
 -- `bounds::ask` meets its promise: each number where its question is the first that is answered no.
 -- Assumes nothing.
-use Rattle.laws.proofs.Base.{Bool, _&&_, refl, inl, inr, arith, needs}
-use Rattle.laws.specs.Tests.{Tells}
-use Rattle.laws.proofs.Tests.{told-yes, told-no, both-told}
-use Rattle.bounds.specs.Bounds.{Bounded}
+use Rattle.laws.proofs.Base.{ℕ, _≤_, _≡_, refl, inl, inr, List, arith, needs, length}
+use Rattle.laws.proofs.Tests.{told-yes, told-no}
+use Rattle.curves.specs.Unlimited.{AnyPair, withMark}
+use Rattle.bounds.specs.Bounds.{maxHorizon, question1, question2}
 use Rattle.bounds.proofs.Said.{asking-yes, asking-no}
+use Rattle.bounds.proofs.Laws.{lengths-with, no-lengths-with, even-with}
 use Rattle.bounds.proofs.ask.Statement.{statement}
 use Rattle.bounds.proofs.ask.Tie as tie
 
--- Question 4, from where both lists have been asked about.
-abbrev answer : tie.After-within-limit2 → Bool
-answer k = k .before .within-limit .result && k .within-limit2 .result
+-- The pair that is given.
+abbrev pair : tie.Start → AnyPair
+pair s = withMark (s .args .upper .now) (s .args .lower .now) (s .args .unlimited)
 
-abbrev start : tie.After-within-limit2 → tie.Start
-start k = k .before .before .before .before .before .before .before
+module _ (s : tie.Start) where
+  abbrev us : List ℕ
+  us = s .args .upper .now
 
-fourth : (k : tie.After-within-limit2)
-    → Tells (answer k) (Bounded (start k .args .upper .now) × Bounded (start k .args .lower .now))
-fourth k =
-    both-told (Bounded (start k .args .upper .now)) (Bounded (start k .args .lower .now)) (k .before .within-limit .result)
-    (k .within-limit2 .result) (k .before .within-limit .ensures) (k .within-limit2 .ensures)
+  no-first : ¬ ((1 ≤ length us) × (length us ≤ maxHorizon)) → ¬ question1 (pair s) .asked
+  no-first n = no-lengths-with us (s .args .lower .now) (s .args .unlimited) n
+
+  first : 1 ≤ length us → length us ≤ maxHorizon → question1 (pair s) .asked
+  first h k = lengths-with us (s .args .lower .now) (s .args .unlimited) h k
+
+  second : length (s .args .lower .now) ≡ length us → question2 (pair s) .asked
+  second e = even-with us (s .args .lower .now) (s .args .unlimited) .1 e
+
+returns-3 : tie.Need-returns-3
+returns-3 c =
+    let s = c .before .before .before .before .before in
+    asking-no (pair s) 2 (inr (
+      first s (omega arith) (omega arith),
+      inl (refl, λ y. c .if3 .taken (even-with (us s) (s .args .lower .now) (s .args .unlimited) .0 y)),
+    ))
 
 returns-4 : tie.Need-returns-4
 returns-4 c =
-    let above = told-no _ (answer (c .before)) (c .if4 .taken) (fourth (c .before)) in
-    asking-no _ 4 (inr ((omega arith, omega arith), inr (omega arith, inl (refl, above))))
+    let s = c .before .before .before .before .before .before .before in
+    let above = told-no _ (c .before .all-within .result) (c .if4 .taken) (c .before .all-within .ensures) in
+    asking-no (pair s) 4 (inr (first s (omega arith) (omega arith), inr (second s (omega arith), inl (refl, above))))
 
 returns-5 : tie.Need-returns-5
 returns-5 c =
-    let within = told-yes _ (answer (c .before)) (c .if4 .left) (fourth (c .before)) in
-    asking-yes _ ((omega arith, omega arith), (omega arith, (within, tt)))
+    let s = c .before .before .before .before .before .before .before in
+    let within = told-yes _ (c .before .all-within .result) (c .if4 .left) (c .before .all-within .ensures) in
+    asking-yes (pair s) (first s (omega arith) (omega arith), (second s (omega arith), (within, tt)))
 
 pub ask-spec : {M : Type 1} → statement M
 ask-spec =
     tie.close
     (tie.spec
-    (λ c. asking-no _ 1 (inl (refl, λ y. omega (arith, y .0, c .if1 .taken))))
-    (λ c. asking-no _ 1 (inl (refl, λ y. omega (arith, y .1, c .if2 .taken))))
-    (λ c. asking-no _ 2 (inr ((omega arith, omega arith), inl (refl, c .if3 .taken))))
-    (λ c κs. search needs)
+    (λ c. asking-no _ 1 (inl (refl, no-first (c .before .before .before) (λ y. omega (arith, y .0, c .if1 .taken)))))
+    (λ c. asking-no _ 1 (inl (refl, no-first (c .before .before .before .before) (λ y. omega (arith, y .1, c .if2 .taken)))))
+    returns-3
     (λ c κs. search needs)
     returns-4
     returns-5)
