@@ -6,8 +6,8 @@ use Rattle.laws.proofs.Tests.{each-map}
 use Rattle.curves.specs.Questions.{AllYes}
 use Rattle.bounds.specs.Bounds.{maxHorizon}
 use Rattle.csv.specs.Text.{Bytes}
-use Rattle.csv.specs.Records.{Constraint, WellFormed, constraintOf, messageLimit, InRange}
-use Rattle.constraints.specs.Constraints.{New, named, largestWindow, smallestMost}
+use Rattle.csv.specs.Records.{Most, none, upTo, MostWithin, Constraint, WellFormed, constraintOf, messageLimit, InRange}
+use Rattle.constraints.specs.Constraints.{New, named, largestWindow, smallerMost, smallestMost}
 use Rattle.constraints.specs.Reading.{recordQuestions}
 
 module _ {A : Type 0} (what : Constraint → A) (other : A) where
@@ -85,9 +85,14 @@ largest-le (c ∷ cs) n hs = omega (arith, hs .0, largest-le cs n (hs .1))
 pub largest-bound : (cs : List Constraint) → Each InRange cs → largestWindow cs ≤ maxHorizon
 largest-bound cs rs = largest-le cs maxHorizon (each-map InRange _ cs (λ c r. r .window) rs)
 
-pub smallest-bound : (cs : List Constraint) → smallestMost cs ≤ messageLimit
-smallest-bound [] = omega arith
-smallest-bound (c ∷ cs) = omega (arith, smallest-bound cs)
+smaller-within : (n : ℕ) (x y : Most) → MostWithin n x → MostWithin n y → MostWithin n (smallerMost x y)
+smaller-within n none y p q = q
+smaller-within n (upTo m) none p q = p
+smaller-within n (upTo m) (upTo k) p q = omega arith
+
+pub smallest-bound : (cs : List Constraint) → Each InRange cs → MostWithin messageLimit (smallestMost cs)
+smallest-bound [] rs = tt
+smallest-bound (c ∷ cs) rs = smaller-within messageLimit (c .most) (smallestMost cs) (rs .0 .most) (smallest-bound cs (rs .1))
 
 -- Where there is a constraint, there is a window.
 pub largest-some : (cs : List Constraint) → Each InRange cs → 1 ≤ length cs → 1 ≤ largestWindow cs

@@ -1,5 +1,6 @@
 -- Document 01's number and values for each case of `Reading`.
 use Prim.Native.Nat.{ℕ}
+use mathlib.Core.Bool.{Bool, false}
 use Rattle.curves.specs.Pairs.{Pair}
 use Rattle.constraints.specs.declared.Reading.{Reading}
 use Rattle.constraints.specs.declared.Reading.the-variants.{Read, HeaderLine, RecordForm, FigureRange, WindowAgain}
@@ -7,7 +8,7 @@ use Rattle.constraints.specs.declared.Reading.the-variants.{NoRecord, Re
 use Rattle.constraints.specs.Reading.{ReadingAnswer}
 
 abbrev pub readingNumber : Reading → ℕ
-readingNumber (Read h) = 0
+readingNumber (Read h b) = 0
 readingNumber HeaderLine = 6
 readingNumber RecordForm = 7
 readingNumber FigureRange = 8
@@ -17,7 +18,7 @@ readingNumber ResultLength = 11
 
 -- The horizon that is answered; 0 on a refusal.
 abbrev pub readingHorizon : Reading → ℕ
-readingHorizon (Read h) = h
+readingHorizon (Read h b) = h
 readingHorizon HeaderLine = 0
 readingHorizon RecordForm = 0
 readingHorizon FigureRange = 0
@@ -25,6 +26,16 @@ readingHorizon WindowAgain = 0
 readingHorizon NoRecord = 0
 readingHorizon ResultLength = 0
 
+-- The mark; not set on a refusal.
+abbrev pub readingMark : Reading → Bool
+readingMark (Read h b) = b
+readingMark HeaderLine = false
+readingMark RecordForm = false
+readingMark FigureRange = false
+readingMark WindowAgain = false
+readingMark NoRecord = false
+readingMark ResultLength = false
+
 -- What a call that returns this case, and leaves the result lists so, has answered.
 abbrev pub readingAnswer : Reading → Pair → ReadingAnswer
-readingAnswer r left = record { number = readingNumber r; horizon = readingHorizon r; results = left }
+readingAnswer r left = record { number = readingNumber r; horizon = readingHorizon r; unlimited = readingMark r; results = left }

@@ -2,12 +2,14 @@
 -- record.
 use Prim.Native.Nat.{ℕ, _≤_}
 use mathlib.Core.Path.{_≡_}
+use mathlib.Core.Bool.{Bool, false}
 use mathlib.Core.List.{List, [], _∷_, _++_, map}
 use mathlib.Core.Logic.{Dec·and, Dec·not}
 use native.Mathlib.Decide.{decLe, ℕ-discrete}
 use lib.ListN.{length, getD, drop}
 use Rattle.laws.proofs.Tests.{each?, equal-lists?}
-use Rattle.curves.specs.Pairs.{Pair}
+use Rattle.curves.specs.Pairs.{Pair, pairOf}
+use Rattle.curves.specs.Unlimited.{AnyPair, limited, unlimited, markOf}
 use Rattle.curves.specs.Questions.{Question, answerTo}
 use Rattle.bounds.specs.Bounds.{RoomFor, roomFor?}
 use Rattle.csv.specs.Text.{Bytes, header, records}
@@ -30,7 +32,7 @@ constraints t = map constraintOf (later t)
 abbrev pub horizonOf : Bytes → ℕ
 horizonOf t = largestWindow (constraints t)
 
-abbrev pub textPair : Bytes → Pair
+abbrev pub textPair : Bytes → AnyPair
 textPair t = filled (horizonOf t) (constraints t)
 
 -- 6. The text is not too long, and its first line is the header.
@@ -74,23 +76,27 @@ pub record ReadingAnswer : Type 0 where
   pub number : ℕ
   -- The pair's horizon.
   pub horizon : ℕ
+  -- The pair's mark: it has no ceilings.
+  pub unlimited : Bool
   pub results : Pair
 
 -- A refusal: its number, nothing else, and the result lists as found.
 abbrev pub refusedReading : ℕ → Pair → ReadingAnswer
-refusedReading n found = record { number = n; horizon = 0; results = found }
+refusedReading n found = record { number = n; horizon = 0; unlimited = false; results = found }
 
--- The text's pair in the first H entries of the result lists; the others as found.
+-- A pair in the first h entries of two lists; the others as found. Without ceilings, the list for them is as found.
+abbrev pub putFirst : ℕ → AnyPair → Pair → Pair
+putFirst h (limited p) found = pairOf (p .upper ++ drop h (found .upper)) (p .lower ++ drop h (found .lower))
+putFirst h (unlimited k ls) found = pairOf (found .upper) (ls ++ drop h (found .lower))
+
+-- The text's pair in the first H entries of the result lists.
 abbrev pub givenReading : Bytes → Pair → ReadingAnswer
 givenReading t found =
     record {
       number = 0;
       horizon = horizonOf t;
-      results =
-          record {
-            upper = textPair t .upper ++ drop (horizonOf t) (found .upper);
-            lower = textPair t .lower ++ drop (horizonOf t) (found .lower);
-          };
+      unlimited = markOf (textPair t);
+      results = putFirst (horizonOf t) (textPair t) found;
     }
 
 -- Reading the text t: the first question that is answered no gives its number, else the text's pair is given.

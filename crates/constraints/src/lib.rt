@@ -3,18 +3,16 @@
 mod table;
 
 use records::Record;
-use table::Table;
 ghost use mathlib.Core.Path.{_≡_};
+ghost use mathlib.Core.List.{[]};
 ghost use Prim.Native.Nat.{_≤_};
 ghost use lib.ListN.{length, drop};
 ghost use Rattle.laws.specs.Tests.{Tells};
 ghost use Rattle.curves.specs.Pairs.{pairOf};
-ghost use Rattle.bounds.specs.Bounds.{maxHorizon};
-ghost use Rattle.csv.specs.Records.{messageLimit};
 ghost use Rattle.csv.specs.Text.{header, records};
 ghost use Rattle.constraints.specs.Reading.{textLimit, reading};
 ghost use Rattle.constraints.specs.Answers.{readingAnswer};
-ghost use Rattle.constraints.specs.Steps.{Scanned, PairDelivered};
+ghost use Rattle.constraints.specs.Steps.{noMost, tableOf, TableHolds, Sized, Scanned, PairDelivered};
 
 // The longest text, in bytes, and where the records begin: after the header and its CR LF.
 const MAX_TEXT: usize = 16_384;
@@ -23,11 +21,11 @@ const HEADER_LINE: usize = 19;
 
 // What reading answers: the pair is in the result lists, or document 01's question is answered no.
 pub enum Reading {
-    // The pair's horizon.
-    Read { horizon: usize },
+    // The pair's horizon, and its mark: `unlimited` where no record has a most, and then the pair has no ceilings.
+    Read { horizon: usize, unlimited: bool },
     // 6: the text is longer than 16,384 bytes or does not begin with the header line.
     HeaderLine,
-    // 7: the first faulty record is not three decimal fields.
+    // 7: the first faulty record is not three decimal fields, of which the last may be empty.
     RecordForm,
     // 8: a figure of it is out of range.
     FigureRange,
@@ -48,14 +46,16 @@ enum Fault {
     Repeated,
 }
 
-// The records read: their constraints, or the fault of the first faulty one.
+// The records read: the fault of the first faulty one; or of all constraints the largest window, 0 where there is none, and the smallest
+// most, `NO_MOST` where none is given.
 struct Scan {
     fault: Fault,
-    table: Table,
+    horizon: usize,
+    smallest: u32,
 }
 
 // Reads the constraints of `text`. Their pair goes to the first entries of `upper` and `lower`, entry 0 for the window of one tick; the
-// others, and on a refusal all, stay as they are.
+// others, and on a refusal all, stay as they are. Of a pair without ceilings, `upper` stays as it is.
 pub fn read(text: &[u8], upper: &mut [u32], lower: &mut [u32]) -> Reading
     ensures { λ r. ⌜ readingAnswer r (pairOf (now (upper .exit)) (now (lower .exit)))
         ≡ reading (now (text .entry)) (pairOf (now (upper .entry)) (now (lower .entry))) ⌝ }
@@ -66,11 +66,12 @@ pub fn read(text: &[u8], upper: &mut [u32], lower: &mut [u32]) -> Reading
     if !is_header(records::find_record(text)) {
         return Reading::HeaderLine;
     }
-    let scan = read_records(text);
+    let mut leasts = table::no_leasts();
+    let mut mosts = table::no_mosts();
+    let scan = read_records(text, &mut leasts, &mut mosts);
     let fault = scan.fault;
-    let table = scan.table;
     match fault {
-        Fault::Sound => deliver(table, upper, lower),
+        Fault::Sound => deliver(scan, &leasts, &mosts, upper, lower),
         Fault::Malformed => Reading::RecordForm,
         Fault::OutOfRange => Reading::FigureRange,
         Fault::Repeated => Reading::WindowAgain,
@@ -95,66 +96,82 @@ fn is_header(line: &[u8]) -> bool
     true
 }
 
-// Reads the records after the header line, each by the rest of the text that it begins.
-fn read_records(text: &[u8]) -> Scan
+// Reads the records after the header line, each by the rest of the text that it begins, into lists that hold no constraint.
+fn read_records(text: &[u8], leasts: &mut [u32], mosts: &mut [u32]) -> Scan
     requires { ⌜ length (now text) ≤ textLimit ⌝ }
-    ensures { λ r. ⌜ Scanned (records (drop 19 (now (text .entry)))) r ⌝ }
+    requires { ⌜ TableHolds (tableOf 0 noMost (now leasts) (now mosts)) [] ⌝ }
+    ensures { λ r. ⌜ Scanned (records (drop 19 (now (text .entry)))) (now (leasts .exit)) (now (mosts .exit)) r ⌝ }
 {
-    let mut table = Table::empty();
+    let mut horizon = 0;
+    let mut smallest = table::NO_MOST;
     let mut at = HEADER_LINE;
     while at < text.len() {
         match records::read_record(&text[at..]) {
             Record::Spells {
                 window,
                 least,
+                capped,
                 most,
                 length,
             } => {
-                if table.named[window - 1] {
-                    return Scan {
-                        fault: Fault::Repeated,
-                        table,
-                    };
+                if mosts[window - 1] != table::UNNAMED {
+                    return stopped(Fault::Repeated);
                 }
-                table = table.put(window, least, most);
+                let m = table::most_or_none(capped, most);
+                horizon = table::larger(horizon, window);
+                smallest = table::smaller(smallest, m);
+                leasts[window - 1] = least;
+                mosts[window - 1] = m;
                 at = at + length + 2;
             }
-            Record::Malformed => {
-                return Scan {
-                    fault: Fault::Malformed,
-                    table,
-                };
-            }
-            Record::OutOfRange => {
-                return Scan {
-                    fault: Fault::OutOfRange,
-                    table,
-                };
-            }
+            Record::Malformed => return stopped(Fault::Malformed),
+            Record::OutOfRange => return stopped(Fault::OutOfRange),
         }
     }
     Scan {
         fault: Fault::Sound,
-        table,
+        horizon,
+        smallest,
+    }
+}
+
+// What reading records that stops at a faulty one gives back.
+fn stopped(fault: Fault) -> Scan
+    ensures { λ r. ⌜ r .fault ≡ fault ⌝ }
+{
+    Scan {
+        fault,
+        horizon: 0,
+        smallest: table::NO_MOST,
     }
 }
 
 // The pair of the constraints in the table goes to the result lists, if there is a constraint and the lists are long enough.
-fn deliver(table: Table, upper: &mut [u32], lower: &mut [u32]) -> Reading
-    requires { ⌜ (table .horizon ≤ maxHorizon) × (table .«smallest_most» ≤ messageLimit) ⌝ }
-    ensures { λ r. ⌜ PairDelivered table (pairOf (now (upper .entry)) (now (lower .entry)))
-        (pairOf (now (upper .exit)) (now (lower .exit))) r ⌝ }
+fn deliver(
+    scan: Scan,
+    leasts: &[u32],
+    mosts: &[u32],
+    upper: &mut [u32],
+    lower: &mut [u32],
+) -> Reading
+    requires { ⌜ Sized (tableOf (scan .horizon) (scan .smallest) (now leasts) (now mosts)) ⌝ }
+    ensures { λ r. ⌜ PairDelivered (tableOf (scan .horizon) (scan .smallest) (now (leasts .entry)) (now (mosts .entry)))
+        (pairOf (now (upper .entry)) (now (lower .entry))) (pairOf (now (upper .exit)) (now (lower .exit))) r ⌝ }
 {
-    let h = table.horizon;
-    if h < 1 {
+    let horizon = scan.horizon;
+    if horizon < 1 {
         return Reading::NoRecord;
     }
-    if upper.len() < h {
+    if upper.len() < horizon {
         return Reading::ResultLength;
     }
-    if lower.len() < h {
+    if lower.len() < horizon {
         return Reading::ResultLength;
     }
-    table.fill(h, upper, lower);
-    Reading::Read { horizon: h }
+    table::fill_lower(leasts, horizon, lower);
+    let unlimited = scan.smallest == table::NO_MOST;
+    if !unlimited {
+        table::fill_upper(mosts, scan.smallest, horizon, upper);
+    }
+    Reading::Read { horizon, unlimited }
 }

@@ -1,93 +1,92 @@
-// The constraints read so far, by their windows.
+// The constraints read so far, by their windows, in two lists that are lent: entry 0 is that of the window of one tick.
 
 ghost use mathlib.Core.Path.{_≡_};
-ghost use mathlib.Core.List.{[]};
-ghost use Prim.Native.Nat.{_≤_, min, max};
-ghost use lib.ListN.{length};
-ghost use Rattle.curves.specs.Pairs.{pairOf};
+ghost use mathlib.Core.List.{_++_};
+ghost use mathlib.Core.Bool.{cond};
+ghost use Prim.Native.Nat.{_*_, _≤_, min, max};
+ghost use lib.Dec.{ltb};
+ghost use lib.ListN.{length, replicate, drop};
+ghost use Rattle.laws.specs.Ranges.{table};
 ghost use Rattle.bounds.specs.Bounds.{maxHorizon};
-ghost use Rattle.csv.specs.Records.{messageLimit};
-ghost use Rattle.constraints.specs.Steps.{TableHolds, with, upperIn, filledFrom};
+ghost use Rattle.csv.specs.Records.{mostIf, orElse, messageLimit};
+ghost use Rattle.constraints.specs.Steps.{noMost, unnamed, ceilingIn, leastIn};
 
-// The longest window.
+// The longest window, and the largest most.
 const MAX_WINDOW: usize = 256;
 
-// The largest most.
 const MESSAGE_LIMIT: u32 = 65_535;
 
-// Entry 0 of an array is that of the window of one tick.
-pub(crate) struct Table {
-    // The largest window named, 0 where none is.
-    pub(crate) horizon: usize,
-    // The smallest most named.
-    pub(crate) smallest_most: u32,
-    pub(crate) named: [bool; MAX_WINDOW],
-    pub(crate) leasts: [u32; MAX_WINDOW],
-    pub(crate) mosts: [u32; MAX_WINDOW],
+// What stands for a most that is missing, and for that of a window that is not named: both above every most, so that the smaller of two is
+// one that is given.
+pub(crate) const NO_MOST: u32 = 65_536;
+
+pub(crate) const UNNAMED: u32 = 65_537;
+
+// The leasts and the mosts of no constraint.
+pub(crate) fn no_leasts() -> [u32; MAX_WINDOW]
+    ensures { λ r. ⌜ r ≡ replicate maxHorizon 0 ⌝ }
+{
+    [0; MAX_WINDOW]
 }
 
-impl Table {
-    // No constraint.
-    pub(crate) fn empty() -> Table
-        ensures { λ r. ⌜ TableHolds r [] ⌝ }
-    {
-        Table {
-            horizon: 0,
-            smallest_most: MESSAGE_LIMIT,
-            named: [false; MAX_WINDOW],
-            leasts: [0; MAX_WINDOW],
-            mosts: [0; MAX_WINDOW],
-        }
-    }
+pub(crate) fn no_mosts() -> [u32; MAX_WINDOW]
+    ensures { λ r. ⌜ r ≡ replicate maxHorizon unnamed ⌝ }
+{
+    [UNNAMED; MAX_WINDOW]
+}
 
-    // One constraint more.
-    pub(crate) fn put(mut self, window: usize, least: u32, most: u32) -> Table
-        requires { ⌜ (1 ≤ window) × (window ≤ maxHorizon) ⌝ }
-        ensures { λ r. ⌜ r ≡ with self window least most ⌝ }
-    {
-        self.horizon = larger(self.horizon, window);
-        self.smallest_most = smaller(self.smallest_most, most);
-        self.named[window - 1] = true;
-        self.leasts[window - 1] = least;
-        self.mosts[window - 1] = most;
-        self
-    }
+// What stands for the most of a constraint.
+pub(crate) fn most_or_none(capped: bool, most: u32) -> u32
+    ensures { λ r. ⌜ r ≡ orElse noMost (mostIf capped most) ⌝ }
+{
+    if capped { most } else { NO_MOST }
+}
 
-    // The ceiling of a window: the most named for it, or else its length times the smallest.
-    fn upper_at(self, window: usize) -> u32
-        requires { ⌜ (1 ≤ window) × (window ≤ maxHorizon) ⌝ }
-        requires { ⌜ self .«smallest_most» ≤ messageLimit ⌝ }
-        ensures { λ r. ⌜ r ≡ upperIn self window ⌝ }
-    {
-        if self.named[window - 1] {
-            return self.mosts[window - 1];
-        }
-        (window as u32) * self.smallest_most
-    }
-
-    // The pair up to a horizon, into the first entries of two lists.
-    pub(crate) fn fill(self, horizon: usize, upper: &mut [u32], lower: &mut [u32])
-        requires { ⌜ (horizon ≤ maxHorizon) × (self .«smallest_most» ≤ messageLimit) ⌝ }
-        requires { ⌜ (horizon ≤ length (now upper)) × (horizon ≤ length (now lower)) ⌝ }
-        ensures { λ _. ⌜ pairOf (now (upper .exit)) (now (lower .exit))
-            ≡ filledFrom self horizon (pairOf (now (upper .entry)) (now (lower .entry))) ⌝ }
-    {
-        let mut i = 0;
-        while i < horizon {
-            upper[i] = self.upper_at(i + 1);
-            lower[i] = self.leasts[i];
-            i += 1;
-        }
+// The leasts up to a horizon, into the first entries of a list.
+pub(crate) fn fill_lower(leasts: &[u32], horizon: usize, lower: &mut [u32])
+    requires { ⌜ (horizon ≤ length (now leasts)) × (horizon ≤ length (now lower)) ⌝ }
+    ensures { λ _. ⌜ now (lower .exit) ≡ table (leastIn (now (leasts .entry))) horizon ++ drop horizon (now (lower .entry)) ⌝ }
+{
+    let mut i = 0;
+    while i < horizon {
+        lower[i] = leasts[i];
+        i += 1;
     }
 }
 
-fn smaller(a: u32, b: u32) -> u32
+// The ceilings up to a horizon, into the first entries of a list.
+pub(crate) fn fill_upper(mosts: &[u32], smallest: u32, horizon: usize, upper: &mut [u32])
+    requires { ⌜ (horizon ≤ length (now mosts)) × (horizon ≤ length (now upper)) ⌝ }
+    requires { ⌜ (horizon ≤ maxHorizon) × (smallest ≤ noMost) ⌝ }
+    ensures { λ _. ⌜ now (upper .exit)
+        ≡ table (ceilingIn smallest (now (mosts .entry))) horizon ++ drop horizon (now (upper .entry)) ⌝ }
+{
+    let mut i = 0;
+    while i < horizon {
+        upper[i] = ceiling(mosts[i], i + 1, smallest);
+        i += 1;
+    }
+}
+
+// The ceiling of a window: the most given for it, or else its length times the smallest.
+fn ceiling(most: u32, window: usize, smallest: u32) -> u32
+    requires { ⌜ (window ≤ maxHorizon) × (smallest ≤ noMost) ⌝ }
+    ensures { λ r. ⌜ r ≡ cond (ltb messageLimit most) (window * smallest) most ⌝ }
+{
+    if MESSAGE_LIMIT < most {
+        (window as u32) * smallest
+    } else {
+        most
+    }
+}
+
+pub(crate) fn smaller(a: u32, b: u32) -> u32
     ensures { λ r. ⌜ r ≡ min a b ⌝ }
 {
     if a < b { a } else { b }
 }
 
-fn larger(a: usize, b: usize) -> usize
+pub(crate) fn larger(a: usize, b: usize) -> usize
     ensures { λ r. ⌜ r ≡ max a b ⌝ }
 {
     if a < b { b } else { a }

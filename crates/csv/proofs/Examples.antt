@@ -2,6 +2,7 @@
 use Rattle.laws.proofs.Base.{_≡_, refl, [], _∷_, _++_}
 use Rattle.csv.specs.Text.{comma, cr, lf, crlf, records, fields}
 use Rattle.csv.specs.Numbers.{valueAfter, value, lastDigits, decimal}
+use Rattle.csv.specs.Records.{constraint, constraintOf, none, upTo}
 
 -- Two records; CR LF after the last or not.
 two : records ((65 ∷ []) ++ crlf ++ (66 ∷ [])) ≡ (65 ∷ []) ∷ (66 ∷ []) ∷ []
@@ -17,9 +18,9 @@ empty : records ((65 ∷ []) ++ crlf ++ crlf) ≡ (65 ∷ []) ∷ [] ∷ []
 unfolding records
 empty = refl
 
-none : records [] ≡ []
+nothing : records [] ≡ []
 unfolding records
-none = refl
+nothing = refl
 
 lone : records (65 ∷ cr ∷ 66 ∷ lf ∷ cr ∷ []) ≡ (65 ∷ cr ∷ 66 ∷ lf ∷ cr ∷ []) ∷ []
 unfolding records
@@ -33,6 +34,15 @@ three = refl
 one : fields [] ≡ [] ∷ []
 unfolding fields
 one = refl
+
+-- `3,7,0` has a most, which is 0; `3,7,` has none.
+most-0 : constraintOf (51 ∷ comma ∷ 55 ∷ comma ∷ 48 ∷ []) ≡ constraint 3 7 (upTo 0)
+unfolding fields valueAfter
+most-0 = refl
+
+no-most : constraintOf (51 ∷ comma ∷ 55 ∷ comma ∷ []) ≡ constraint 3 7 none
+unfolding fields valueAfter
+no-most = refl
 
 -- `65535` is 65,535, and the other way round.
 spelled : value (54 ∷ 53 ∷ 53 ∷ 51 ∷ 53 ∷ []) ≡ 65_535

@@ -1,6 +1,7 @@
 -- Splitting: the first record of a text and the first field of a record, byte by byte, and what follows them.
 -- Assumes nothing.
-use Rattle.laws.proofs.Base.{ℕ, suc, _+_, _-_, _≤_, _<_, _≡_, refl, ap, Bool, true, false, _&&_, cond, List, [], _∷_, _++_, append-assoc}
+use Rattle.laws.proofs.Base.{ℕ, suc, _+_, _-_, _≤_, _<_, _≡_, refl, ap, Bool, true, false, _&&_, cond, List, [], _∷_, _++_}
+use Rattle.laws.proofs.Base.{append-assoc, _⊎_, inl, inr}
 use Rattle.laws.proofs.Base.{append-nil, Dec·and, ℕ-discrete, le-refl, sub-zero, add-one, arith, eq-eqb, ne-eqb, eqb-true, eqb, length}
 use Rattle.laws.proofs.Base.{getD, take, drop, length-drop, drop-of-length-le, drop-cons, take-suc, take-all}
 use Rattle.csv.specs.Text.{Bytes, comma, cr, lf, onFirst, records, fields}
@@ -92,25 +93,6 @@ records-first (b ∷ c ∷ s) h =
       | false ↦ followed records 2 b (c ∷ s) (records (c ∷ s)) (records-first (c ∷ s) (omega arith))
     ]
 
--- The fields of a record are its first, and those of what follows its comma, if it has one.
-pub record Fielded (r : Bytes) (fs : List Bytes) : Type 0 where
-  pub more : ¬ (length (getD fs 0 []) ≡ length r) → fs ≡ getD fs 0 [] ∷ fields (drop (length (getD fs 0 []) + 1) r)
-  pub last : length (getD fs 0 []) ≡ length r → fs ≡ getD fs 0 [] ∷ []
-
-pub fields-first : (r : Bytes) → Fielded r (fields r)
-unfolding fields
-fields-first [] = record { more = λ n. absurd (n refl); last = λ e. refl }
-fields-first (b ∷ r) =
-    let h = fields-first r in
-    elim (eqb b comma) as (λ t. Fielded (b ∷ r) (cond t ([] ∷ fields r) (onFirst b (fields r)))) [
-      | true ↦ record { more = λ n. refl; last = λ e. absurd (omega arith) }
-      | false ↦
-          record {
-            more = λ n. followed fields 1 b r (fields r) (h .more (λ e. n (rw first-of (ap suc e))));
-            last = λ e. let e′ = rw first-of at e in rw (h .last (omega (arith, e′)));
-          }
-    ]
-
 -- A first part is no longer than the whole.
 module _ {Stop : Bytes → Type 0} {first : Bytes → Bytes} (splits : Splits Stop first) (stop? : (s : Bytes) → Dec (Stop s)) where
   first-short : (s : Bytes) → length (first s) ≤ length s
@@ -124,5 +106,75 @@ module _ {Stop : Bytes → Type 0} {first : Bytes → Bytes} (splits : Splits St
 pub record-short : (s : Bytes) → length (getD (records s) 0 []) ≤ length s
 record-short = first-short splits-records (λ s. Dec·and (ℕ-discrete (getD s 0 0) cr) (ℕ-discrete (getD s 1 0) lf))
 
-pub field-short : (r : Bytes) → length (getD (fields r) 0 []) ≤ length r
-field-short = first-short splits-fields (λ s. ℕ-discrete (getD s 0 0) comma)
+-- ---- the first field of the first record, without looking for the record's end first
+abbrev headField : Bytes → Bytes
+headField s = getD (fields (getD (records s) 0 [])) 0 []
+
+-- It ends before a comma or CR LF.
+pub splits-head-fields : Splits (λ s. (getD s 0 0 ≡ comma) ⊎ ((getD s 0 0 ≡ cr) × (getD s 1 0 ≡ lf))) headField
+unfolding fields
+splits-head-fields = record { none = ap (λ r. getD (fields r) 0 []) (splits-records .none); stops = stops; goes = goes }
+  where
+    stops : (s : Bytes) → (getD s 0 0 ≡ comma) ⊎ ((getD s 0 0 ≡ cr) × (getD s 1 0 ≡ lf)) → headField s ≡ []
+    stops s (inr e) = rw (splits-records .stops s e)
+    stops [] (inl e) = absurd (omega (arith, e))
+    stops (b ∷ s) (inl e) =
+        rw (splits-records .goes b s (λ h. omega (arith, e, h .0))) (splits-fields .stops (b ∷ getD (records s) 0 []) e)
+
+    goes : (b : ℕ) (s : Bytes) → ¬ ((b ≡ comma) ⊎ ((b ≡ cr) × (getD s 0 0 ≡ lf))) → headField (b ∷ s) ≡ b ∷ headField s
+    goes b s n = rw (splits-records .goes b s (λ h. n (inr h))) (splits-fields .goes b (getD (records s) 0 []) (λ h. n (inl h)))
+
+-- What follows it: the other fields are those of the record that begins after the comma, or there is none.
+pub record MoreFields (s r f : Bytes) : Type 0 where
+  pub parts : fields r ≡ f ∷ fields (getD (records (drop (length f + 1) s)) 0 [])
+  pub whole : length r ≡ length f + 1 + length (getD (records (drop (length f + 1) s)) 0 [])
+
+pub record OnlyField (r f : Bytes) : Type 0 where
+  pub alone : fields r ≡ f ∷ []
+  pub same : length r ≡ length f
+
+pub record HeadField (s r f : Bytes) : Type 0 where
+  pub followed : (length f < length s) × (getD s (length f) 0 ≡ comma) → MoreFields s r f
+  pub ended : ¬ ((length f < length s) × (getD s (length f) 0 ≡ comma)) → OnlyField r f
+
+-- At the end of a record; at a comma; a byte earlier.
+head-none : (b : ℕ) (s : Bytes) → ¬ (b ≡ comma) → HeadField (b ∷ s) [] []
+unfolding fields
+head-none b s n = record { followed = λ k. absurd (n (k .1)); ended = λ k. record { alone = refl; same = refl } }
+
+head-comma : (b : ℕ) (s : Bytes) → b ≡ comma → HeadField (b ∷ s) (b ∷ getD (records s) 0 []) []
+unfolding fields
+head-comma b s e =
+    record {
+      followed = λ k. record { parts = rw (eq-eqb b comma e); whole = omega arith };
+      ended = λ n. absurd (n (omega arith, e));
+    }
+
+head-more : (b : ℕ) (s r f : Bytes) → ¬ (b ≡ comma) → HeadField s r f → HeadField (b ∷ s) (b ∷ r) (b ∷ f)
+unfolding fields
+head-more b s r f n h =
+    let more : length (b ∷ f) + 1 ≡ suc (length f + 1) = omega arith in
+    record {
+      followed =
+          λ k.
+          let m = h .followed (omega (arith, k .0), k .1) in
+          record { parts = rw (ne-eqb b comma n, m .parts, more); whole = rw more (omega (arith, m .whole)) };
+      ended =
+          λ k.
+          let m = h .ended (λ j. k (omega (arith, j .0), j .1)) in
+          record { alone = rw (ne-eqb b comma n, m .alone); same = omega (arith, m .same) };
+    }
+
+pub head-field : (s : Bytes) → HeadField s (getD (records s) 0 []) (headField s)
+unfolding records fields
+head-field [] = record { followed = λ k. absurd (omega (arith, k .0)); ended = λ k. record { alone = refl; same = refl } }
+head-field (b ∷ s) =
+    elim (Dec·and (ℕ-discrete b cr) (ℕ-discrete (getD s 0 0) lf)) [
+      | yes e ↦ rw (splits-records .stops (b ∷ s) e) (head-none b s (λ k. omega (arith, k, e .0)))
+      | no n ↦
+          rw (splits-records .goes b s n)
+          (elim (ℕ-discrete b comma) [
+            | yes e ↦ rw (splits-fields .stops (b ∷ getD (records s) 0 []) e) (head-comma b s e)
+            | no e ↦ rw (splits-fields .goes b (getD (records s) 0 []) e) (head-more b s _ _ e (head-field s))
+          ])
+    ]

@@ -1,13 +1,14 @@
 -- Laws over plain bytes: line ends, and the number that digits spell.
 -- Assumes nothing.
-use Rattle.laws.proofs.Base.{ℕ, _+_, _-_, _*_, _^_, _≤_, _<_, _≡_, refl, sym, _∙_, Bool, true, false, [], _∷_, _↔_, add-zero, add-one}
-use Rattle.laws.proofs.Base.{arith, eqb-true, eqb-false, eqb, length, getD, drop, drop-of-length-le, getD-drop, drop-cons}
+use Rattle.laws.proofs.Base.{ℕ, _+_, _-_, _*_, _^_, _≤_, _<_, _≡_, refl, sym, _∙_, Bool, true, false, [], _∷_, _↔_, inr, ⊎-elim, getD-drop}
+use Rattle.laws.proofs.Base.{add-zero, add-one, arith, eqb-true, eqb-false, eqb, length, getD, drop, drop-of-length-le, drop-cons}
 use native.Mathlib.Nat.{pow-suc, pow-le-pow-right}
 use lib.ListN.{List·getD-eq-default}
 use Rattle.laws.specs.Tests.{Tells, Each}
-use Rattle.csv.specs.Text.{Bytes, cr, lf}
+use Rattle.laws.proofs.Tests.{tells-same, eqb-told}
+use Rattle.csv.specs.Text.{Bytes, comma, cr, lf}
 use Rattle.csv.specs.Numbers.{Digit, valueAfter, value}
-use Rattle.records.specs.Steps.{LineEnd}
+use Rattle.records.specs.Steps.{LineEnd, FieldEnd, CommaAt}
 
 -- The byte that the rest of a text begins with.
 pub first-byte : (s : Bytes) (k : ℕ) → getD (drop k s) 0 0 ≡ getD s k 0
@@ -30,6 +31,16 @@ line-end-told s k e = go (eqb (getD s (k + 1) 0) lf) refl
     go : (b : Bool) → eqb (getD s (k + 1) 0) lf ≡ b → Tells b (LineEnd (drop k s))
     go true t = (first-byte s k ∙ e, getD-drop k s 1 0 ∙ eqb-true _ _ t)
     go false t = λ h. eqb-false _ _ t (line-bytes s k h .1)
+
+-- A comma, by its index; and where there is none, CR LF tells whether a field ends.
+pub comma-told : (s : Bytes) (k : ℕ) → k < length s → Tells (eqb (getD s k 0) comma) (CommaAt s k)
+comma-told s k l = tells-same (eqb (getD s k 0) comma) (λ e. (l, e), λ h. h .1) (eqb-told (getD s k 0) comma)
+
+pub field-end-told : (s : Bytes) (k : ℕ) (b : Bool) → ¬ (getD s k 0 ≡ comma) → Tells b (LineEnd (drop k s)) → Tells b (FieldEnd (drop k s))
+field-end-told s k b n t =
+    tells-same b
+    (inr, ⊎-elim (λ e. absurd (n (sym (first-byte s k) ∙ e))) (λ h. h))
+    t
 
 -- A loop through the bytes of a field that have been digits so far: before its turn at i they spell n.
 pub record Spelling (f : Bytes) (i n : ℕ) : Type 0 where

@@ -1,13 +1,13 @@
 // One record of a constraint text: its part of the text, its fields, their numbers.
 
 ghost use mathlib.Core.Path.{_≡_};
-ghost use Prim.Native.Nat.{_≤_};
+ghost use Prim.Native.Nat.{_<_};
 ghost use lib.ListN.{length, drop};
 ghost use Rattle.laws.specs.Tests.{Tells};
 ghost use Rattle.csv.specs.Records.{firstRecord};
 ghost use Rattle.records.specs.Recording.{recording};
 ghost use Rattle.records.specs.Answers.{recordReply};
-ghost use Rattle.records.specs.Steps.{LineEnd, firstField, Numbered, RangeChecked, Figured};
+ghost use Rattle.records.specs.Steps.{LineEnd, FieldEnd, CommaAt, firstField, Numbered, RangeChecked, Figured};
 
 // The longest window, the largest least or most, and the most digits of a field.
 const MAX_WINDOW: u32 = 256;
@@ -18,14 +18,15 @@ const MAX_DIGITS: usize = 5;
 
 // What the record that a text begins with is found to be, or document 01's question that is answered no.
 pub enum Record {
-    // A constraint with its figures in range, and how many bytes spell it.
+    // A constraint with its figures in range, and how many bytes spell it. `capped` says whether it has a most, which is 0 if not.
     Spells {
         window: usize,
         least: u32,
+        capped: bool,
         most: u32,
         length: usize,
     },
-    // 7: it is not three decimal fields.
+    // 7: it is not three decimal fields, of which the last may be empty.
     Malformed,
     // 8: a figure is out of range.
     OutOfRange,
@@ -38,28 +39,28 @@ enum Parsed {
 }
 
 // Reads the record that the rest of a text begins with: the part up to the next CR LF, or all of it. Of an empty rest that is an empty
-// record, which is malformed as any other is.
+// record, which is malformed as any other is. The record is not searched for first: its fields end where it does.
 pub fn read_record(rest: &[u8]) -> Record
     ensures { λ r. ⌜ recordReply r ≡ recording (firstRecord (now (rest .entry))) ⌝ }
 {
-    let line = find_record(rest);
-    let window = find_field(line);
+    let window = find_field(rest);
     let w = window.len();
-    if w == line.len() {
+    if !comma_at(rest, w) {
         return Record::Malformed;
     }
-    let after_window = &line[w + 1..];
+    let after_window = &rest[w + 1..];
     let least = find_field(after_window);
     let l = least.len();
-    if l == after_window.len() {
+    if !comma_at(after_window, l) {
         return Record::Malformed;
     }
     let after_least = &after_window[l + 1..];
     let most = find_field(after_least);
-    if most.len() != after_least.len() {
+    let m = most.len();
+    if comma_at(after_least, m) {
         return Record::Malformed;
     }
-    parse_fields(window, least, most, line.len())
+    parse_fields(window, least, most, w + 1 + l + 1 + m)
 }
 
 // The record that a text begins with: the part up to the next CR LF, or all of it.
@@ -78,30 +79,51 @@ pub fn find_record(text: &[u8]) -> &[u8]
 
 // Whether CR LF stands at a place of the text.
 fn ends_line(text: &[u8], at: usize) -> bool
-    requires { ⌜ at ≤ length (now text) ⌝ }
+    requires { ⌜ at < length (now text) ⌝ }
     ensures { λ r. ⌜ Tells r (LineEnd (drop at (now (text .entry)))) ⌝ }
 {
-    if text.len() - at < 2 {
+    if text[at] != b'\r' {
         return false;
     }
-    if text[at] != b'\r' {
+    if text.len() - at < 2 {
         return false;
     }
     text[at + 1] == b'\n'
 }
 
-// The field that a record, or what is left of one, begins with: the part up to the next comma, or all of it.
-fn find_field(line: &[u8]) -> &[u8]
-    ensures { λ r. ⌜ now r ≡ firstField (now (line .entry)) ⌝ }
+// The field that a text begins with: the part up to the next comma or CR LF, or all of it.
+fn find_field(text: &[u8]) -> &[u8]
+    ensures { λ r. ⌜ now r ≡ firstField (firstRecord (now (text .entry))) ⌝ }
 {
     let mut n = 0;
-    while n < line.len() {
-        if line[n] == b',' {
-            return &line[0..n];
+    while n < text.len() {
+        if ends_field(text, n) {
+            return &text[0..n];
         }
         n += 1;
     }
-    line
+    text
+}
+
+// Whether a comma or CR LF stands at a place of the text.
+fn ends_field(text: &[u8], at: usize) -> bool
+    requires { ⌜ at < length (now text) ⌝ }
+    ensures { λ r. ⌜ Tells r (FieldEnd (drop at (now (text .entry)))) ⌝ }
+{
+    if text[at] == b',' {
+        return true;
+    }
+    ends_line(text, at)
+}
+
+// Whether a comma stands at a place of the text, if it has that place.
+fn comma_at(text: &[u8], at: usize) -> bool
+    ensures { λ r. ⌜ Tells r (CommaAt (now (text .entry)) at) ⌝ }
+{
+    if text.len() <= at {
+        return false;
+    }
+    text[at] == b','
 }
 
 // What the three fields of a record of so many bytes spell.
@@ -114,10 +136,13 @@ fn parse_fields(window: &[u8], least: &[u8], most: &[u8], length: usize) -> Reco
     let Parsed::Value(l) = parse_number(least) else {
         return Record::Malformed;
     };
+    if most.len() < 1 {
+        return check_range(w, l, false, 0, length);
+    }
     let Parsed::Value(m) = parse_number(most) else {
         return Record::Malformed;
     };
-    check_range(w, l, m, length)
+    check_range(w, l, true, m, length)
 }
 
 // The number that a field spells: 1 to 5 digits with no leading zero.
@@ -154,8 +179,8 @@ fn parse_number(field: &[u8]) -> Parsed
 }
 
 // The record's constraint, if its figures are in range.
-fn check_range(window: u32, least: u32, most: u32, length: usize) -> Record
-    ensures { λ r. ⌜ RangeChecked window least most length r ⌝ }
+fn check_range(window: u32, least: u32, capped: bool, most: u32, length: usize) -> Record
+    ensures { λ r. ⌜ RangeChecked window least capped most length r ⌝ }
 {
     if window < 1 {
         return Record::OutOfRange;
@@ -172,6 +197,7 @@ fn check_range(window: u32, least: u32, most: u32, length: usize) -> Record
     Record::Spells {
         window: window as usize,
         least,
+        capped,
         most,
         length,
     }

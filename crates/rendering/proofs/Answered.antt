@@ -2,7 +2,7 @@
 use Rattle.laws.proofs.Base.{ℕ, _≤_, _≡_, sym, ap, _∙_, [], zero-add, length, sets}
 use Rattle.laws.specs.Writing.{Wrote}
 use Rattle.laws.proofs.Writing.{sets-copies}
-use Rattle.curves.specs.Pairs.{Pair}
+use Rattle.curves.specs.Unlimited.{AnyPair}
 use Rattle.curves.specs.Questions.{FirstNo}
 use Rattle.bounds.specs.Bounds.{pairQuestions}
 use Rattle.csv.specs.Text.{Bytes}
@@ -13,7 +13,7 @@ use Rattle.rendering.specs.Answers.{renderingNumber, renderingAnswer}
 use Rattle.rendering.proofs.Said.{refused-is}
 
 pub refused-as
-    : (p : Pair) (r : Rendered) (a : Rendering) → (r .answer ≡ a) × (r .length ≡ 0) × (r .bytes ≡ paddedText [])
+    : (p : AnyPair) (r : Rendered) (a : Rendering) → (r .answer ≡ a) × (r .length ≡ 0) × (r .bytes ≡ paddedText [])
     → FirstNo (pairQuestions p) (renderingNumber a) → renderingAnswer r ≡ rendering p
 refused-as p r a s f =
     (λ i. record { number = renderingNumber (s .0 i); length = s .1 i; bytes = s .2 i }) ∙ sym (refused-is p (renderingNumber a) f)

@@ -1,7 +1,8 @@
 -- What `rendering` says, case by case: refused where a question is the first that is answered no, else the text.
 -- Assumes nothing.
 use Rattle.laws.proofs.Base.{ℕ, _+_, _≤_, _≡_, refl, le-refl, arith, length, length-append}
-use Rattle.curves.specs.Pairs.{Pair, horizon}
+use Rattle.curves.specs.Pairs.{horizon}
+use Rattle.curves.specs.Unlimited.{AnyPair, curvesOf}
 use Rattle.curves.specs.Questions.{AllYes, FirstNo}
 use Rattle.curves.proofs.Asked.{said-no, said-yes, Positive, no-iff, yes-iff}
 use Rattle.bounds.specs.Bounds.{pairQuestions}
@@ -11,7 +12,7 @@ use Rattle.rendering.specs.Rendering.{longest, textOf, refusalLine, refu
 use Rattle.rendering.specs.Theorems.{RenderingRefused, WrittenIffAllYes, TextFits, RefusalFits}
 use Rattle.rendering.proofs.Laws.{text-whole, text-within}
 
-module _ (p : Pair) where
+module _ (p : AnyPair) where
   pub refused-is : (n : ℕ) → FirstNo (pairQuestions p) n → rendering p ≡ refusedRendering n
   unfolding rendering
   refused-is n f = said-no (pairQuestions p) _ refusedRendering n f
@@ -32,7 +33,7 @@ unfolding rendering
 written-iff-all-yes p = yes-iff (pairQuestions p) _ refusedRendering (λ x. x .number) (λ k. refl) (λ ys. refl) (positive-numbers p)
 
 pub text-fits : TextFits
-text-fits p all = rw (text-whole p (horizon p) refl) (text-within p all (horizon p) (le-refl (horizon p)))
+text-fits p all = let h = horizon (curvesOf p) in rw (text-whole p h refl) (text-within p all h (le-refl h))
 
 -- Eight bytes, the number, two bytes.
 refusal-length : (n : ℕ) → length (refusalLine n) ≡ 10 + length (decimal n)

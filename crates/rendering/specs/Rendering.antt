@@ -4,19 +4,31 @@ use Prim.Native.Nat.{ℕ, _-_}
 use mathlib.Core.List.{[], _∷_, _++_}
 use lib.ListN.{length, replicate}
 use Rattle.laws.specs.Ranges.{fold}
-use Rattle.curves.specs.Pairs.{Pair, horizon, upperAt, lowerAt}
+use Rattle.curves.specs.Pairs.{horizon, upperAt, lowerAt}
+use Rattle.curves.specs.Unlimited.{AnyPair, limited, unlimited, curvesOf}
 use Rattle.curves.specs.Questions.{answerTo}
 use Rattle.bounds.specs.Bounds.{pairQuestions}
 use Rattle.csv.specs.Text.{Bytes, comma, crlf, header}
 use Rattle.csv.specs.Numbers.{decimal}
+use Rattle.csv.specs.Records.{Most, none, upTo}
+
+-- A most as a field: in digits, or empty where there is none (request P7).
+abbrev pub mostField : Most → Bytes
+mostField none = []
+mostField (upTo m) = decimal m
 
 -- A record with what ends it: the window, its least, its most.
-unfoldable pub line : ℕ → ℕ → ℕ → Bytes
-line w l m = decimal w ++ (comma ∷ []) ++ decimal l ++ (comma ∷ []) ++ decimal m ++ crlf
+unfoldable pub line : ℕ → ℕ → Most → Bytes
+line w l m = decimal w ++ (comma ∷ []) ++ decimal l ++ (comma ∷ []) ++ mostField m ++ crlf
+
+-- A window's most: its ceiling, if the pair has ceilings.
+abbrev pub mostAt : AnyPair → ℕ → Most
+mostAt (limited p) d = upTo (upperAt p d)
+mostAt (unlimited h ls) d = none
 
 -- The text of a pair: the header line, and a record for each window 1 to H.
-unfoldable pub textOf : Pair → Bytes
-textOf p = fold _++_ (header ++ crlf) (λ d. line d (lowerAt p d) (upperAt p d)) (horizon p)
+unfoldable pub textOf : AnyPair → Bytes
+textOf p = fold _++_ (header ++ crlf) (λ d. line d (lowerAt (curvesOf p) d) (mostAt p d)) (horizon (curvesOf p))
 
 -- The line that tells a refusal: `refused `, its number, CR LF.
 unfoldable pub refusalLine : ℕ → Bytes
@@ -48,5 +60,5 @@ abbrev pub written : Bytes → RenderingAnswer
 written t = record { number = 0; length = length t; bytes = paddedText t }
 
 -- Rendering the pair p: questions 1, 2 and 4, as for every operation on a pair, and then its text.
-unfoldable pub rendering : Pair → RenderingAnswer
+unfoldable pub rendering : AnyPair → RenderingAnswer
 rendering p = answerTo (pairQuestions p) (λ _. written (textOf p)) refusedRendering

@@ -8,7 +8,7 @@ ghost use mathlib.Core.List.{[]};
 ghost use Prim.Native.Nat.{_≤_};
 ghost use lib.ListN.{length};
 ghost use Rattle.laws.specs.Writing.{Wrote};
-ghost use Rattle.curves.specs.Pairs.{pairOf};
+ghost use Rattle.curves.specs.Unlimited.{withMark};
 ghost use Rattle.curves.specs.Questions.{AllYes};
 ghost use Rattle.bounds.specs.Bounds.{pairQuestions};
 ghost use Rattle.rendering.specs.Rendering.{longest, paddedText, textOf, refusalLine, written, rendering};
@@ -24,7 +24,7 @@ pub enum Rendering {
     UpperLength,
     // 2: the lower list has another length.
     LowerLength,
-    // 4: a figure is above 16,776,960.
+    // 4: a figure is above 16,776,960; without ceilings, a least is.
     FigureLimit,
 }
 
@@ -35,12 +35,13 @@ pub struct Rendered {
     pub bytes: [u8; LONGEST],
 }
 
-// The text of the pair of `upper` and `lower`, entry 0 for the window of one tick.
-pub fn render(upper: &[u32], lower: &[u32]) -> Rendered
-    ensures { λ r. ⌜ renderingAnswer r ≡ rendering (pairOf (now (upper .entry)) (now (lower .entry))) ⌝ }
+// The text of the pair of `upper` and `lower`, entry 0 for the window of one tick. Where `unlimited` is set the pair has no ceilings:
+// `upper` gives the horizon alone, and the last field of each record is empty.
+pub fn render(upper: &[u32], lower: &[u32], unlimited: bool) -> Rendered
+    ensures { λ r. ⌜ renderingAnswer r ≡ rendering (withMark (now (upper .entry)) (now (lower .entry)) unlimited) ⌝ }
 {
-    match bounds::ask(upper, lower) {
-        Asked::Passes => written(upper, lower),
+    match bounds::ask(upper, lower, unlimited) {
+        Asked::Passes => written(upper, lower, unlimited),
         Asked::UpperLength => refused(Rendering::UpperLength),
         Asked::LowerLength => refused(Rendering::LowerLength),
         Asked::FigureLimit => refused(Rendering::FigureLimit),
@@ -48,12 +49,12 @@ pub fn render(upper: &[u32], lower: &[u32]) -> Rendered
 }
 
 // The text of a pair that passes the questions.
-fn written(upper: &[u32], lower: &[u32]) -> Rendered
-    requires { ⌜ AllYes (pairQuestions (pairOf (now upper) (now lower))) ⌝ }
-    ensures { λ r. ⌜ renderingAnswer r ≡ written (textOf (pairOf (now (upper .entry)) (now (lower .entry)))) ⌝ }
+fn written(upper: &[u32], lower: &[u32], unlimited: bool) -> Rendered
+    requires { ⌜ AllYes (pairQuestions (withMark (now upper) (now lower) unlimited)) ⌝ }
+    ensures { λ r. ⌜ renderingAnswer r ≡ written (textOf (withMark (now (upper .entry)) (now (lower .entry)) unlimited)) ⌝ }
 {
     let mut bytes = blank();
-    let length = write_pair(upper, lower, &mut bytes);
+    let length = write_pair(upper, lower, unlimited, &mut bytes);
     Rendered {
         answer: Rendering::Written,
         length,
@@ -94,15 +95,16 @@ fn blank() -> [u8; LONGEST]
 }
 
 // Writes the header line and then the record of each window; the place after the text comes back.
-fn write_pair(upper: &[u32], lower: &[u32], out: &mut [u8]) -> usize
-    requires { ⌜ AllYes (pairQuestions (pairOf (now upper) (now lower))) ⌝ }
+fn write_pair(upper: &[u32], lower: &[u32], unlimited: bool, out: &mut [u8]) -> usize
+    requires { ⌜ AllYes (pairQuestions (withMark (now upper) (now lower) unlimited)) ⌝ }
     requires { ⌜ longest ≤ length (now out) ⌝ }
-    ensures { λ r. ⌜ Wrote (now (out .entry)) 0 (textOf (pairOf (now (upper .entry)) (now (lower .entry)))) (now (out .exit)) r ⌝ }
+    ensures { λ r. ⌜ Wrote (now (out .entry)) 0 (textOf (withMark (now (upper .entry)) (now (lower .entry)) unlimited))
+        (now (out .exit)) r ⌝ }
 {
     let mut at = write::bytes(b"window,least,most\r\n", out, 0);
     let mut n = 0;
     while n < upper.len() {
-        at = write::record(n as u32 + 1, lower[n], upper[n], out, at);
+        at = write::record(n as u32 + 1, lower[n], !unlimited, upper[n], out, at);
         n += 1;
     }
     at

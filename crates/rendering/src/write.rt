@@ -5,20 +5,39 @@ ghost use mathlib.Core.List.{[], _∷_};
 ghost use lib.ListN.{length};
 ghost use Rattle.laws.specs.Writing.{Wrote};
 ghost use Rattle.csv.specs.Numbers.{decimal};
-ghost use Rattle.rendering.specs.Rendering.{line, refusalLine};
+ghost use Rattle.csv.specs.Records.{mostIf};
+ghost use Rattle.rendering.specs.Rendering.{mostField, line, refusalLine};
 ghost use Rattle.rendering.specs.Steps.{lineLength};
 
-// A record: three numbers between commas, ended by CR LF.
-pub(crate) fn record(window: u32, least: u32, most: u32, out: &mut [u8], at: usize) -> usize
-    requires { ⌜ at + lineLength window least most ≤ length (now out) ⌝ }
-    ensures { λ r. ⌜ Wrote (now (out .entry)) at (line window least most) (now (out .exit)) r ⌝ }
+// A record: three numbers between commas, ended by CR LF. Where `capped` is not set it has no most.
+pub(crate) fn record(
+    window: u32,
+    least: u32,
+    capped: bool,
+    most: u32,
+    out: &mut [u8],
+    at: usize,
+) -> usize
+    requires { ⌜ at + lineLength window least (mostIf capped most) ≤ length (now out) ⌝ }
+    ensures { λ r. ⌜ Wrote (now (out .entry)) at (line window least (mostIf capped most)) (now (out .exit)) r ⌝ }
 {
     let after_window = number(window, out, at);
     let second = bytes(b",", out, after_window);
     let after_least = number(least, out, second);
     let third = bytes(b",", out, after_least);
-    let after_most = number(most, out, third);
+    let after_most = most_field(capped, most, out, third);
     bytes(b"\r\n", out, after_most)
+}
+
+// The last field of a record.
+fn most_field(capped: bool, most: u32, out: &mut [u8], at: usize) -> usize
+    requires { ⌜ at + length (mostField (mostIf capped most)) ≤ length (now out) ⌝ }
+    ensures { λ r. ⌜ Wrote (now (out .entry)) at (mostField (mostIf capped most)) (now (out .exit)) r ⌝ }
+{
+    if capped {
+        return number(most, out, at);
+    }
+    at
 }
 
 // The line that tells a refusal.

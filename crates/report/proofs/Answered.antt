@@ -1,19 +1,17 @@
 -- What a step's answer leads to, by its number. Assumes nothing.
-use Rattle.laws.proofs.Base.{ℕ, _≤_, _<_, _≡_, sym, ap, _∙_, cond, List, [], ⊎-elim, arith, eqb, length, take, replicate, length-take-le}
-use Rattle.curves.specs.Pairs.{Pair, pairOf, first}
-use Rattle.curves.specs.Questions.{ask}
+use Rattle.laws.proofs.Base.{ℕ, _≤_, _<_, _≡_, sym, ap, _∙_, Bool, cond, List, [], ⊎-elim, arith}
+use Rattle.laws.proofs.Base.{eqb, length, take, replicate, length-take-le}
+use Rattle.curves.specs.Pairs.{Pair, pairOf}
+use Rattle.curves.specs.Unlimited.{AnyPair, withMark}
 use Rattle.bounds.specs.Bounds.{maxHorizon}
 use Rattle.closure.specs.Closing.{closing}
 use Rattle.csv.specs.Text.{Bytes}
-use Rattle.constraints.specs.Reading.{later, constraints, readingQuestions, reading}
-use Rattle.constraints.proofs.Named.{in-range, largest-bound}
-use Rattle.constraints.proofs.Said.{refused-is, pair-iff-all-yes, gives-asked, given-is-text-pair}
 use Rattle.rendering.specs.declared.Rendered.{Rendered}
 use Rattle.rendering.specs.Rendering.{refusalLine, textOf, written, rendering}
 use Rattle.rendering.specs.Answers.{renderingAnswer, renderingNumber}
 use Rattle.rendering.proofs.Said.{written-is, written-iff-all-yes}
 use Rattle.report.specs.declared.Output.{Output}
-use Rattle.report.specs.Report.{zeroLists, afterRendering, afterClosing, reported}
+use Rattle.report.specs.Report.{zeroLists, firstMarked, afterRendering, afterClosing, reported}
 use Rattle.report.proofs.Said.{refuses, goes-on, rendered-is}
 
 -- The output for an answer with the number n, which was told as m: its line, or what the next step leads to.
@@ -31,25 +29,19 @@ unfolding zeroLists
 into-zeros f g us ls a o u l e is = is ∙ ap g (e ∙ (λ i. f (pairOf (u i) (l i))))
 
 -- ---- reading
--- The horizon that is answered is within the limit.
-pub read-within : (t : Bytes) (found : Pair) (h : ℕ) → h ≡ reading t found .horizon → h ≤ maxHorizon
-read-within t found h e =
-    ⊎-elim
-    (λ ys.
-    let g = pair-iff-all-yes t found .1 ys in
-    let bound = largest-bound (constraints t) (in-range [] (later t) (gives-asked t found g .0)) in
-    omega (arith, given-is-text-pair t found g .0, bound))
-    (λ f. omega (arith, ap (λ a. a .horizon) (refused-is t found (f .0) (f .1))))
-    (ask (readingQuestions t found))
-
--- The pair that was read is closed, up to a horizon that was told as h.
-pub pair-told : (us ls : List ℕ) (h k : ℕ) (o : Output) → h ≡ k → h ≤ length us
-    → o ≡ reported (afterClosing (length (take h us)) (closing (pairOf (take h us) (take h ls)) zeroLists))
-    → o ≡ reported (afterClosing k (closing (first k (pairOf us ls)) zeroLists))
-pair-told us ls h k o e l is =
+-- The pair that was read is closed, up to a horizon that was told as h, with the mark that was told as m.
+pub pair-told : (us ls : List ℕ) (h k : ℕ) (m b : Bool) (o : Output) → h ≡ k → m ≡ b → h ≤ length us
+    → o ≡ reported (afterClosing (length (take h us)) (closing (withMark (take h us) (take h ls) m) zeroLists))
+    → o ≡ reported (afterClosing k (closing (firstMarked k (pairOf us ls) b) zeroLists))
+pair-told us ls h k m b o e f l is =
     is
-    ∙ ap (λ n. reported (afterClosing n (closing (first h (pairOf us ls)) zeroLists))) (length-take-le h us l)
-    ∙ ap (λ n. reported (afterClosing n (closing (first n (pairOf us ls)) zeroLists))) e
+    ∙ ap (λ n. reported (afterClosing n (closing (firstMarked h (pairOf us ls) m) zeroLists))) (length-take-le h us l)
+    ∙ (λ i. reported (afterClosing (e i) (closing (firstMarked (e i) (pairOf us ls) (f i)) zeroLists)))
+
+-- The closure is rendered with the mark that was told as m.
+pub mark-told : (us ls : List ℕ) (m b : Bool) (o : Output) → m ≡ b → o ≡ reported (afterRendering (rendering (withMark us ls m)))
+    → o ≡ reported (afterRendering (rendering (withMark us ls b)))
+mark-told us ls m b o f is = is ∙ ap (λ x. reported (afterRendering (rendering (withMark us ls x)))) f
 
 -- ---- rendering
 module _ (r : Rendered) (o : Output) (shown : (o .length ≡ r .length) × (o .bytes ≡ r .bytes)) where
@@ -57,7 +49,7 @@ module _ (r : Rendered) (o : Output) (shown : (o .length ≡ r .length) × (o .b
   text-shown t e =
       λ i. record { length = (shown .0 ∙ ap (λ a. a .length) e) i; bytes = (shown .1 ∙ ap (λ a. a .bytes) e) i }
 
-  pub pair-shown : (p : Pair) → renderingAnswer r ≡ rendering p → renderingNumber (r .answer) ≡ 0
+  pub pair-shown : (p : AnyPair) → renderingAnswer r ≡ rendering p → renderingNumber (r .answer) ≡ 0
       → o ≡ reported (afterRendering (rendering p))
   pair-shown p e z =
       let ok = written-iff-all-yes p .0 (ap (λ a. a .number) (sym e) ∙ z) in

@@ -4,25 +4,25 @@ use Rattle.laws.proofs.Base.{arith, eq-eqb, ne-eqb, eqb, length, getD, take, re
 use Rattle.laws.proofs.Base.{length-take-le, take-append-seam}
 use Rattle.laws.specs.Ranges.{fold}
 use Rattle.laws.specs.Tests.{Each}
-use Rattle.laws.proofs.Table.{length-table}
 use Rattle.curves.specs.Streams.{Stream}
-use Rattle.curves.specs.Pairs.{Pair, horizon, upperAt, lowerAt}
+use Rattle.curves.specs.Pairs.{horizon, lowerAt, FiguresWithin}
+use Rattle.curves.specs.Unlimited.{AnyPair, limited, unlimited, curvesOf, AllWithin}
 use Rattle.curves.specs.Questions.{AllYes, FirstNo, ask}
 use Rattle.curves.proofs.Asked.{no-parts}
-use Rattle.bounds.specs.Bounds.{maxHorizon, pairQuestions}
-use Rattle.closure.specs.Closing.{refusedClosing, closing}
+use Rattle.bounds.specs.Bounds.{maxHorizon, figureLimit, pairQuestions, RoomFor}
+use Rattle.closure.specs.Closing.{closingLimit, refusedClosing, closing}
 use Rattle.closure.specs.Theorems.{PassesFour, GivesClosure, closureOf}
 use Rattle.closure.proofs.Given.{refused-iff-no-stream, else-closed}
 use Rattle.closure.proofs.Promised.{closure-passes}
 use Rattle.csv.specs.Text.{Bytes, crlf, header}
-use Rattle.csv.specs.Records.{Constraint, constraintOf}
+use Rattle.csv.specs.Records.{Constraint, constraintOf, messageLimit}
 use Rattle.constraints.specs.Constraints.{Satisfies}
 use Rattle.constraints.proofs.Named.{in-range, largest-bound}
-use Rattle.constraints.specs.Reading.{later, constraints, horizonOf, recordQuestions, question11, readingQuestions, reading}
+use Rattle.constraints.specs.Reading.{later, constraints, recordQuestions, question11, readingQuestions, reading}
 use Rattle.constraints.specs.Theorems.{GivesPair}
-use Rattle.constraints.proofs.Said.{refused-is, pair-iff-all-yes, given-is-text-pair}
+use Rattle.constraints.proofs.Said.{refused-is, pair-iff-all-yes, text-horizon, given-is-text-pair}
 use Rattle.constraints.proofs.Streams.{text-pair-passes, satisfies-iff-conforms}
-use Rattle.rendering.specs.Rendering.{longest, line, textOf, refusalLine, rendering}
+use Rattle.rendering.specs.Rendering.{longest, line, mostAt, textOf, refusalLine, rendering}
 use Rattle.rendering.proofs.Said.{written-is, text-fits, refusal-fits}
 use Rattle.report.specs.declared.Output.{Output}
 use Rattle.report.specs.Report.{zeroLists, afterRendering, afterClosing, afterReading, output, reported}
@@ -38,25 +38,33 @@ goes-on n x y e = ap (λ (b : Bool). cond b x y) (eq-eqb n 0 e)
 
 -- ---- rendering and closing
 -- A pair that passes is written as its text.
-pub rendered-is : (p : Pair) → AllYes (pairQuestions p) → afterRendering (rendering p) ≡ textOf p
+pub rendered-is : (p : AnyPair) → AllYes (pairQuestions p) → afterRendering (rendering p) ≡ textOf p
 rendered-is p ok = ap afterRendering (written-is p ok) ∙ take-append-seam (textOf p) _
 
 pub zero-lengths : (length (zeroLists .upper) ≡ maxHorizon) × (length (zeroLists .lower) ≡ maxHorizon)
 unfolding zeroLists
 zero-lengths = (length-replicate {A = ℕ} maxHorizon 0, length-replicate {A = ℕ} maxHorizon 0)
 
-module _ (p : Pair) where
-  passes : AllYes (pairQuestions p) → PassesFour p zeroLists
-  passes ok =
-      (ok .0, (ok .1 .0, ((omega (arith, ok .0 .1, zero-lengths .0), omega (arith, ok .0 .1, zero-lengths .1)), (ok .1 .1 .0, tt))))
+-- Closing's question 4, of a pair that passes the other operations' and whose leasts are small.
+fourth : (p : AnyPair) → AllWithin figureLimit p → FiguresWithin messageLimit (curvesOf p .lower) → AllWithin (closingLimit p) p
+fourth (limited p) ok small = ok
+fourth (unlimited h ls) ok small = small
+
+module _ (p : AnyPair) where
+  passes : AllYes (pairQuestions p) × FiguresWithin messageLimit (curvesOf p .lower) → PassesFour p zeroLists
+  passes (ok, small) =
+      let room : RoomFor (horizon (curvesOf p)) zeroLists =
+      (omega (arith, ok .0 .1, zero-lengths .0), omega (arith, ok .0 .1, zero-lengths .1)) in
+      (ok .0, (ok .1 .0, (room, (fourth p (ok .1 .1 .0) small, tt))))
 
   closed-output : GivesClosure p zeroLists
-      → afterClosing (horizon p) (closing p zeroLists) ≡ textOf (closureOf p zeroLists)
+      → afterClosing (horizon (curvesOf p)) (closing p zeroLists) ≡ textOf (closureOf p zeroLists)
   closed-output g =
       goes-on (closing p zeroLists .number) _ _ g ∙ rendered-is (closureOf p zeroLists) (closure-passes p zeroLists g)
 
-  refused-output : closing p zeroLists ≡ refusedClosing 5 zeroLists → afterClosing (horizon p) (closing p zeroLists) ≡ refusalLine 5
-  refused-output e = ap (afterClosing (horizon p)) e
+  refused-output : closing p zeroLists ≡ refusedClosing 5 zeroLists
+      → afterClosing (horizon (curvesOf p)) (closing p zeroLists) ≡ refusalLine 5
+  refused-output e = ap (afterClosing (horizon (curvesOf p))) e
 
 -- ---- reading
 -- The numbers of a record's questions.
@@ -97,15 +105,15 @@ module _ (t : Bytes) where
   unread-output n f = ap afterReading (refused-is t zeroLists n f) ∙ refuses n _ _ (omega (arith, number-within n f .0))
 
   module _ (g : GivesPair t zeroLists) where
-    passes-pair : AllYes (pairQuestions (pairIn t))
+    passes-pair : AllYes (pairQuestions (pairIn t)) × FiguresWithin messageLimit (curvesOf (pairIn t) .lower)
     passes-pair = text-pair-passes t zeroLists g
 
-    read-horizon : reading t zeroLists .horizon ≡ horizon (pairIn t)
+    read-horizon : reading t zeroLists .horizon ≡ horizon (curvesOf (pairIn t))
     read-horizon =
         let e = given-is-text-pair t zeroLists g in
-        e .0 ∙ sym (ap horizon (e .1) ∙ length-table _ (horizonOf t))
+        e .0 ∙ sym (ap (λ p. horizon (curvesOf p)) (e .1) ∙ text-horizon t)
 
-    read-output : output t ≡ afterClosing (horizon (pairIn t)) (closing (pairIn t) zeroLists)
+    read-output : output t ≡ afterClosing (horizon (curvesOf (pairIn t))) (closing (pairIn t) zeroLists)
     unfolding output
     read-output =
         goes-on (reading t zeroLists .number) _ _ g
@@ -128,12 +136,12 @@ output-is t =
     (ask (readingQuestions t zeroLists))
 
 -- A text of curves begins with `w`, a refusal with `r`.
-text-begins : (p : Pair) → getD (textOf p) 0 0 ≡ 119
+text-begins : (p : AnyPair) → getD (textOf p) 0 0 ≡ 119
 unfolding textOf fold
-text-begins p = go (horizon p) .1
+text-begins p = go (horizon (curvesOf p)) .1
   where
     lines : ℕ → Bytes
-    lines d = line d (lowerAt p d) (upperAt p d)
+    lines d = line d (lowerAt (curvesOf p) d) (mostAt p d)
 
     go : (n : ℕ) → (1 ≤ length (fold _++_ (header ++ crlf) lines n)) × (getD (fold _++_ (header ++ crlf) lines n) 0 0 ≡ 119)
     go zero = (omega arith, refl)

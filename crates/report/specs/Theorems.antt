@@ -5,7 +5,7 @@ use mathlib.Core.Logic.{_↔_, _⊎_}
 use lib.ListN.{length}
 use Rattle.laws.specs.Tests.{Each}
 use Rattle.curves.specs.Streams.{Stream}
-use Rattle.curves.specs.Pairs.{Pair}
+use Rattle.curves.specs.Unlimited.{AnyPair}
 use Rattle.curves.specs.Questions.{FirstNo}
 use Rattle.closure.specs.Theorems.{GivesClosure, closureOf}
 use Rattle.csv.specs.Text.{Bytes}
@@ -16,7 +16,7 @@ use Rattle.rendering.specs.Rendering.{longest, textOf, refusalLine}
 use Rattle.report.specs.Report.{zeroLists, output}
 
 -- The pair that reading the text gives.
-abbrev pub pairIn : Bytes → Pair
+abbrev pub pairIn : Bytes → AnyPair
 pairIn t = givenPair t zeroLists
 
 -- The output is the closed curves of the text's pair; or a refusal with 5 of a text that reads well; or with 6 to 10, by reading's

@@ -8,10 +8,11 @@ ghost use mathlib.Core.Path.{_≡_};
 ghost use Prim.Native.Nat.{_≤_};
 ghost use lib.ListN.{length, replicate};
 ghost use Rattle.curves.specs.Pairs.{pairOf};
+ghost use Rattle.curves.specs.Unlimited.{withMark};
 ghost use Rattle.bounds.specs.Bounds.{maxHorizon};
 ghost use Rattle.closure.specs.Closing.{closing};
-ghost use Rattle.closure.specs.Answers.{closingNumber, closingAnswer};
-ghost use Rattle.constraints.specs.Answers.{readingNumber, readingHorizon, readingAnswer};
+ghost use Rattle.closure.specs.Answers.{closingNumber, closingMark, closingAnswer};
+ghost use Rattle.constraints.specs.Answers.{readingNumber, readingHorizon, readingMark, readingAnswer};
 ghost use Rattle.rendering.specs.Rendering.{refusalLine, rendering};
 ghost use Rattle.rendering.specs.Answers.{renderingNumber};
 ghost use Rattle.report.specs.Report.{zeroLists, afterRendering, afterClosing, afterReading, output, reported};
@@ -48,18 +49,25 @@ fn report_reading(reading: Reading, upper: &[u32], lower: &[u32]) -> Output
         return refusal_output(number);
     }
     let horizon = reading_horizon(reading);
-    report_pair(&upper[..horizon], &lower[..horizon])
+    let unlimited = reading_mark(reading);
+    report_pair(&upper[..horizon], &lower[..horizon], unlimited)
 }
 
 // Closes a pair and reports its closure.
-fn report_pair(upper: &[u32], lower: &[u32]) -> Output
+fn report_pair(upper: &[u32], lower: &[u32], unlimited: bool) -> Output
     requires { ⌜ length (now upper) ≤ maxHorizon ⌝ }
     ensures { λ r. ⌜ r ≡ reported (afterClosing (length (now (upper .entry)))
-        (closing (pairOf (now (upper .entry)) (now (lower .entry))) zeroLists)) ⌝ }
+        (closing (withMark (now (upper .entry)) (now (lower .entry)) unlimited) zeroLists)) ⌝ }
 {
     let mut closed_upper = zeros();
     let mut closed_lower = zeros();
-    let closing = closure::close(upper, lower, &mut closed_upper, &mut closed_lower);
+    let closing = closure::close(
+        upper,
+        lower,
+        unlimited,
+        &mut closed_upper,
+        &mut closed_lower,
+    );
     report_closing(closing, upper.len(), &closed_upper, &closed_lower)
 }
 
@@ -72,14 +80,15 @@ fn report_closing(closing: Closing, horizon: usize, upper: &[u32], lower: &[u32]
     if 0 < number {
         return refusal_output(number);
     }
-    report_closure(&upper[..horizon], &lower[..horizon])
+    let unlimited = closing_mark(closing);
+    report_closure(&upper[..horizon], &lower[..horizon], unlimited)
 }
 
 // Renders the closure.
-fn report_closure(upper: &[u32], lower: &[u32]) -> Output
-    ensures { λ r. ⌜ r ≡ reported (afterRendering (rendering (pairOf (now (upper .entry)) (now (lower .entry))))) ⌝ }
+fn report_closure(upper: &[u32], lower: &[u32], unlimited: bool) -> Output
+    ensures { λ r. ⌜ r ≡ reported (afterRendering (rendering (withMark (now (upper .entry)) (now (lower .entry)) unlimited))) ⌝ }
 {
-    let rendered = rendering::render(upper, lower);
+    let rendered = rendering::render(upper, lower, unlimited);
     let answer = rendered.answer;
     let number = rendering_number(answer);
     if 0 < number {
@@ -104,12 +113,15 @@ fn output_of(rendered: Rendered) -> Output
     Output { length, bytes }
 }
 
-// The number of a refusal, and 0 for a result: of reading, and with it the horizon; of closing; of rendering.
+// The number of a refusal, and 0 for a result: of reading, and with it the horizon and the mark; of closing, and the mark; of rendering.
 fn reading_number(reading: Reading) -> u32
     ensures { λ r. ⌜ r ≡ readingNumber reading ⌝ }
 {
     match reading {
-        Reading::Read { horizon: _ } => 0,
+        Reading::Read {
+            horizon: _,
+            unlimited: _,
+        } => 0,
         Reading::HeaderLine => 6,
         Reading::RecordForm => 7,
         Reading::FigureRange => 8,
@@ -123,7 +135,10 @@ fn reading_horizon(reading: Reading) -> usize
     ensures { λ r. ⌜ r ≡ readingHorizon reading ⌝ }
 {
     match reading {
-        Reading::Read { horizon } => horizon,
+        Reading::Read {
+            horizon,
+            unlimited: _,
+        } => horizon,
         Reading::HeaderLine => 0,
         Reading::RecordForm => 0,
         Reading::FigureRange => 0,
@@ -133,16 +148,52 @@ fn reading_horizon(reading: Reading) -> usize
     }
 }
 
+fn reading_mark(reading: Reading) -> bool
+    ensures { λ r. ⌜ r ≡ readingMark reading ⌝ }
+{
+    match reading {
+        Reading::Read {
+            horizon: _,
+            unlimited,
+        } => unlimited,
+        Reading::HeaderLine => false,
+        Reading::RecordForm => false,
+        Reading::FigureRange => false,
+        Reading::WindowAgain => false,
+        Reading::NoRecord => false,
+        Reading::ResultLength => false,
+    }
+}
+
 fn closing_number(closing: Closing) -> u32
     ensures { λ r. ⌜ r ≡ closingNumber closing ⌝ }
 {
     match closing {
-        Closing::Closed { rounds: _ } => 0,
+        Closing::Closed {
+            rounds: _,
+            unlimited: _,
+        } => 0,
         Closing::UpperLength => 1,
         Closing::LowerLength => 2,
         Closing::ResultLength => 3,
         Closing::FigureLimit => 4,
         Closing::NoClosure => 5,
+    }
+}
+
+fn closing_mark(closing: Closing) -> bool
+    ensures { λ r. ⌜ r ≡ closingMark closing ⌝ }
+{
+    match closing {
+        Closing::Closed {
+            rounds: _,
+            unlimited,
+        } => unlimited,
+        Closing::UpperLength => false,
+        Closing::LowerLength => false,
+        Closing::ResultLength => false,
+        Closing::FigureLimit => false,
+        Closing::NoClosure => false,
     }
 }
 

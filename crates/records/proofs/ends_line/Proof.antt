@@ -6,15 +6,15 @@ use Rattle.records.proofs.ends_line.Statement.{statement}
 use Rattle.records.proofs.ends_line.Tie as tie
 
 returns : tie.Need-returns
-returns c = no-line-end (c .before .args .text .now) (c .before .args .at) (c .if1 .taken)
+returns c = no-return (c .before .before .args .text .now) (c .before .before .args .at) (c .if1 .taken)
 
 returns-2 : tie.Need-returns-2
-returns-2 c = no-return (c .before .before .before .args .text .now) (c .before .before .before .args .at) (c .if2 .taken)
+returns-2 c = no-line-end (c .before .before .before .args .text .now) (c .before .before .before .args .at) (c .if2 .taken)
 
 returns-3 : tie.Need-returns-3
 returns-3 c =
     let args = c .before .before .before .before .args in
-    line-end-told (args .text .now) (args .at) (c .before .if2 .left)
+    line-end-told (args .text .now) (args .at) (c .before .before .if1 .left)
 
 pub ends-line-spec : {M : Type 1} → statement M
 ends-line-spec =

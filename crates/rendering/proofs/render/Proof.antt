@@ -1,7 +1,7 @@
 -- `rendering::render` meets its promise: each refusal where its question is the first that is answered no, and else the text.
 -- Assumes nothing.
 use Rattle.laws.proofs.Base.{_≡_, sym, _∙_, subst, needs}
-use Rattle.curves.specs.Pairs.{Pair, pairOf}
+use Rattle.curves.specs.Unlimited.{AnyPair, withMark}
 use Rattle.bounds.specs.declared.Asked.{Asked}
 use Rattle.bounds.proofs.Said.{Found, found}
 use Rattle.rendering.proofs.Said.{written-is}
@@ -10,8 +10,8 @@ use Rattle.rendering.proofs.render.Statement.{statement}
 use Rattle.rendering.proofs.render.Tie as tie
 
 -- What the questions tell, in an arm of the match.
-abbrev pair : tie.After-ask → Pair
-pair k = pairOf (k .before .before .before .args .upper .now) (k .before .before .before .args .lower .now)
+abbrev pair : tie.After-ask → AnyPair
+pair k = let args = k .before .before .before .args in withMark (args .upper .now) (args .lower .now) (args .unlimited)
 
 told : (k : tie.After-ask) (a : Asked) → k .ask .result ≡ a → Found (pair k) a
 told k a e = subst (Found (pair k)) e (found (pair k) (k .ask .result) (k .ask .ensures))

@@ -3,7 +3,8 @@
 use Rattle.laws.proofs.Base.{ap, needs}
 use Rattle.constraints.specs.Reading.{reading}
 use Rattle.report.specs.Report.{afterReading, output, reported}
-use Rattle.report.proofs.Answered.{into-zeros, read-within}
+use Rattle.report.proofs.Answered.{into-zeros}
+use Rattle.constraints.proofs.Streams.{read-within}
 use Rattle.report.proofs.report.Statement.{statement}
 use Rattle.report.proofs.report.Tie as tie
 

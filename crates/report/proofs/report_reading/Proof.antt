@@ -20,15 +20,16 @@ lowers k = omega (arith, k .reading-horizon .ensures, start k .pre)
 
 report-pair-requires : tie.Need-report-pair-requires
 report-pair-requires c κs =
-    let k = c .before .before in
+    let k = c .before .before .before in
     let part = length-take-le (k .reading-horizon .result) (start k .args .upper .now) (uppers k) in
     omega (arith, part, k .reading-horizon .ensures, start k .pre)
 
 returns-2 : tie.Need-returns-2
 returns-2 c =
-    let k = c .before .before .before in
+    let m = c .before .before .before in
+    let k = m .before in
     next-told _ _ _ _ (k .before .before .reading-number .ensures) (k .before .if1 .left)
-    (pair-told _ _ _ _ _ (k .reading-horizon .ensures) (uppers k) (c .report-pair .ensures))
+    (pair-told _ _ _ _ _ _ _ (k .reading-horizon .ensures) (m .reading-mark .ensures) (uppers k) (c .report-pair .ensures))
 
 pub report-reading-spec : {M : Type 1} → statement M
 report-reading-spec =
@@ -38,7 +39,8 @@ report-reading-spec =
     (λ c κs. search needs)
     returns
     (λ c κs. search needs)
-    (λ c. sym (length-take-le _ _ (uppers (c .before))))
-    (λ c. sym (length-take-le _ _ (lowers (c .before .before))))
+    (λ c κs. search needs)
+    (λ c. sym (length-take-le _ _ (uppers (c .before .before))))
+    (λ c. sym (length-take-le _ _ (lowers (c .before .before .before))))
     report-pair-requires
     returns-2)

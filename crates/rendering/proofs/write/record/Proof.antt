@@ -17,7 +17,7 @@ returns c =
     let window = first .before .before .before .before .before in
     let two = wrote-more (window .number .ensures) (first .bytes .ensures) in
     let four = wrote-more (wrote-more two (least .number2 .ensures)) (comma .bytes2 .ensures) in
-    wrote-more (wrote-more four (most .number3 .ensures)) (end .bytes3 .ensures)
+    wrote-more (wrote-more four (most .most-field .ensures)) (end .bytes3 .ensures)
 
 pub record-spec : {M : Type 1} → statement M
 record-spec =
