@@ -1,10 +1,14 @@
 -- Laws over plain variables for the counts that the next tick can have: what a turn of the loop keeps, and what the range answers.
 -- Assumes nothing.
-use Rattle.laws.proofs.Base.{ℕ, suc, _+_, _-_, _%_, _≤_, _<_, min, max, _≡_, sym, ap, _∙_, List, _↔_, le-refl, add-one, arith, length, getD}
-use Rattle.curves.specs.Pairs.{Pair, pairOf, figure}
+use Rattle.laws.proofs.Base.{ℕ, suc, _+_, _-_, _*_, _%_, _≤_, _<_, max, _≡_, sym, ap, _∙_, Bool, true, false, List, _↔_, le-refl, add-one}
+use Rattle.laws.proofs.Base.{arith, length, getD}
+use Rattle.curves.specs.Streams.{countLimit}
+use Rattle.curves.specs.Pairs.{Pair, figure}
+use Rattle.curves.specs.Unlimited.{withMark, curvesOf}
 use Rattle.curves.specs.Conformance.{Inside}
 use Rattle.curves.specs.Ticks.{then, last, Keeps}
 use Rattle.curves.specs.Questions.{result}
+use Rattle.curves.proofs.Highest.{highest-at}
 use Rattle.curves.proofs.NextTick.{last-none, last-more, length-then, last-next, range-from, no-range}
 use Rattle.curves.proofs.Verdicts.{KeptTo, kept-none, kept-more}
 use Rattle.bounds.specs.Bounds.{figureLimit}
@@ -16,52 +20,82 @@ use Rattle.generator.specs.declared.Admissible.the-variants as admissibl
 use Rattle.generator.specs.declared.Sending.{Sending}
 use Rattle.generator.specs.declared.Sending.the-variants as sends
 use Rattle.generator.specs.declared.Limits.{Limits}
-use Rattle.generator.specs.Generating.{chosen, ranging, sending}
+use Rattle.generator.specs.Generating.{Sendable, chosen, ranging, sending}
 use Rattle.generator.specs.Answers.{rangeReply, sendingReply}
-use Rattle.generator.specs.Steps.{Limited, Small, Shows, ChoosesWhere, AddsSent}
-use Rattle.generator.proofs.Said.{range-answer, ranging-none, ranging-range, ranging-from, count-limited, chosen-within, sent-from}
+use Rattle.generator.specs.Steps.{Limited, loweredBy, Small, Shows, ChoosesWhere, AddsSent}
+use Rattle.generator.proofs.Said.{range-answer, ranging-none, ranging-range, ranging-from, count-limited}
+use Rattle.generator.proofs.Said.{sendable-iff, chosen-within, sent-from}
 
-module _ (us ls xs : List ℕ) where
+-- ---- one window
+-- With the ceiling u the sum is not above it, where there are ceilings.
+abbrev Below : Bool → ℕ → ℕ → Type 0
+Below true u s = Unit {0}
+Below false u s = s ≤ u
+
+lowered-iff : (b : Bool) (end u s x : ℕ) → (x < loweredBy b end u s) ↔ ((x < end) × Below b u (s + x))
+lowered-iff true end u s x = ((λ l. (l, tt)), λ l. l .0)
+lowered-iff false end u s x = ((λ l. (omega arith, omega arith)), λ l. omega (arith, l .0, l .1))
+
+-- The figures of d + 1 ticks are the entries with index d.
+inside-iff : (us ls : List ℕ) (b : Bool) (d s : ℕ) → d < length us → s ≤ (d + 1) * countLimit
+    → Inside (curvesOf (withMark us ls b)) (suc d) s ↔ ((getD ls d 0 ≤ s) × Below b (getD us d 0) s)
+unfolding figure
+inside-iff us ls true d s l c = (
+  (λ i. (omega (arith, i .1), tt)),
+  (λ h. ((λ q. omega (arith, q, highest-at (length us) (suc d) (omega arith) l)), (λ q. omega (arith, h .0)))),
+)
+inside-iff us ls false d s l c =
+    ((λ i. (omega (arith, i .1), omega (arith, i .0))), (λ h. ((λ q. omega (arith, h .1)), (λ q. omega (arith, h .0)))))
+
+module _ (us ls : List ℕ) (b : Bool) (xs : List ℕ) where
   abbrev p : Pair
-  p = pairOf us ls
+  p = curvesOf (withMark us ls b)
 
-  -- After the turn for the window of d + 1 ticks: s is the sum of the last d, and the counts with which every window
+  -- After the turn for the window of d + 1 ticks: s is the sum of the last d, and the counts up to the limit with which every window
   -- up to that one keeps its figures are those from lo to before end.
   pub record Narrowed (lo end s d : ℕ) : Type 0 where
     pub held : d ≤ length xs
     pub summed : s ≡ last xs d
-    pub counts : (x : ℕ) → KeptTo p (then xs x) (suc d) ↔ ((lo ≤ x) × (x < end))
+    pub counts : (x : ℕ) → (KeptTo p (then xs x) (suc d) × (x ≤ figureLimit)) ↔ ((lo ≤ x) × (x < end))
 
   module _ (S : Slices us ls xs) where
-    -- With the count x, the window of d + 1 ticks keeps its figures.
-    abbrev Holds : ℕ → ℕ → Type 0
-    Holds x d = (getD ls d 0 ≤ last xs d + x) × (last xs d + x ≤ getD us d 0)
+    -- With the count x, the window of d + 1 ticks, of which those before have the sum s, keeps its figures.
+    abbrev Holds : ℕ → ℕ → ℕ → Type 0
+    Holds x s d = (getD ls d 0 ≤ s + x) × Below b (getD us d 0) (s + x)
 
-    kept-iff : (x d : ℕ) → d ≤ length xs → KeptTo p (then xs x) (suc d) ↔ (KeptTo p (then xs x) d × Holds x d)
-    unfolding figure
-    kept-iff x d h = (there, λ b. kept-more p (then xs x) d (b .0) (λ j. back (b .1)))
+    kept-iff : (x s d : ℕ) → d ≤ length xs → s ≡ last xs d → s ≤ d * countLimit → x ≤ figureLimit
+        → KeptTo p (then xs x) (suc d) ↔ (KeptTo p (then xs x) d × Holds x s d)
+    kept-iff x s d h e c l = (there, λ k. kept-more p (then xs x) d (k .0) (λ j. rw sums (inside .1 (k .1))))
       where
-        there : KeptTo p (then xs x) (suc d) → KeptTo p (then xs x) d × Holds x d
-        there k =
-            let i : Inside p (suc d) (last (then xs x) (suc d)) = k (suc d) (le-refl (suc d)) (judged-next us ls xs x d S h) in
-            ((λ e l j. k e (omega arith) j), (omega (arith, last-next xs x d h), omega (arith, last-next xs x d h)))
+        inside : Inside p (suc d) (s + x) ↔ Holds x s d
+        inside = inside-iff us ls b d (s + x) (omega (arith, S .fewer)) (omega arith)
 
-        back : Holds x d → Inside p (suc d) (last (then xs x) (suc d))
-        back b = ((λ m. omega (arith, last-next xs x d h)), λ f. omega (arith, last-next xs x d h))
+        sums : last (then xs x) (suc d) ≡ s + x
+        sums = omega (arith, last-next xs x d h)
+
+        there : KeptTo p (then xs x) (suc d) → KeptTo p (then xs x) d × Holds x s d
+        there k =
+            let i = k (suc d) (le-refl (suc d)) (judged-next us ls xs b x d S h) in
+            ((λ e l j. k e (omega arith) j), inside .0 (rw sums at i))
 
     -- The window of the next tick alone gives the first limits.
-    pub narrowed-once : Narrowed (getD ls 0 0) (getD us 0 0 + 1) 0 0
-    narrowed-once = record { held = omega arith; summed = omega (arith, last-none xs); counts = λ x. (there x, back x) }
+    pub narrowed-once : (end : ℕ) → end ≡ loweredBy b (suc figureLimit) (getD us 0 0) 0 → Narrowed (getD ls 0 0) end 0 0
+    narrowed-once end e =
+        record { held = omega arith; summed = omega (arith, last-none xs); counts = λ x. rw e (there x, back x) }
       where
-        there : (x : ℕ) → KeptTo p (then xs x) 1 → (getD ls 0 0 ≤ x) × (x < getD us 0 0 + 1)
-        there x k =
-            let (n, a) = kept-iff x 0 (omega arith) .0 k in
-            (omega (arith, last-none xs), omega (arith, last-none xs))
+        first : (x : ℕ) → x ≤ figureLimit → KeptTo p (then xs x) 1 ↔ (KeptTo p (then xs x) 0 × Holds x 0 0)
+        first x l = kept-iff x 0 0 (omega arith) (omega (arith, last-none xs)) (omega arith) l
 
-        back : (x : ℕ) → (getD ls 0 0 ≤ x) × (x < getD us 0 0 + 1) → KeptTo p (then xs x) 1
-        back x (a, b) =
-            kept-iff x 0 (omega arith) .1
-            (kept-none p (then xs x), (omega (arith, last-none xs), omega (arith, last-none xs)))
+        there : (x : ℕ) → KeptTo p (then xs x) 1 × (x ≤ figureLimit)
+            → (getD ls 0 0 ≤ x) × (x < loweredBy b (suc figureLimit) (getD us 0 0) 0)
+        there x (k, l) =
+            let (n, a) = first x l .0 k in (omega (arith, a .0), lowered-iff b _ _ 0 x .1 (omega arith, a .1))
+
+        back : (x : ℕ) → (getD ls 0 0 ≤ x) × (x < loweredBy b (suc figureLimit) (getD us 0 0) 0)
+            → KeptTo p (then xs x) 1 × (x ≤ figureLimit)
+        back x (u, v) =
+            let (l, m) = lowered-iff b _ _ 0 x .0 v in
+            (first x (omega arith) .1 (kept-none p (then xs x), (omega arith, m)), omega arith)
 
     module _ (lo end s d lo′ end′ : ℕ) (N : Narrowed lo end s d) (h : d < length xs) where
       abbrev s′ : ℕ
@@ -70,37 +104,46 @@ module _ (us ls xs : List ℕ) where
       summed-more : s′ ≡ last xs (suc d)
       summed-more = omega (arith, N .summed, last-more xs d h)
 
-      more
-          : lo′ ≡ max lo (getD ls (suc d) 0 - s′) → end′ ≡ min end (getD us (suc d) 0 + 1 - s′) → Narrowed lo′ end′ s′ (suc d)
-      more p₁ p₂ = record { held = omega arith; summed = summed-more; counts = λ x. (there x, back x) }
+      more : s′ ≤ suc d * countLimit → lo′ ≡ max lo (getD ls (suc d) 0 - s′) → end′ ≡ loweredBy b end (getD us (suc d) 0) s′
+          → Narrowed lo′ end′ s′ (suc d)
+      more c p₁ p₂ = record { held = omega arith; summed = summed-more; counts = λ x. rw p₂ (there x, back x) }
         where
-          there : (x : ℕ) → KeptTo p (then xs x) (suc (suc d)) → (lo′ ≤ x) × (x < end′)
-          there x k =
-              let (n, a) = kept-iff x (suc d) h .0 k in
-              let (u, v) = N .counts x .0 n in
-              (omega (arith, summed-more), omega (arith, summed-more))
+          next : (x : ℕ) → x ≤ figureLimit → KeptTo p (then xs x) (suc (suc d)) ↔ (KeptTo p (then xs x) (suc d) × Holds x s′ (suc d))
+          next x l = kept-iff x s′ (suc d) h summed-more c l
 
-          back : (x : ℕ) → (lo′ ≤ x) × (x < end′) → KeptTo p (then xs x) (suc (suc d))
-          back x (a, b) =
-              kept-iff x (suc d) h .1
-              (N .counts x .1 (omega arith, omega arith), (omega (arith, summed-more), omega (arith, summed-more)))
+          there : (x : ℕ) → KeptTo p (then xs x) (suc (suc d)) × (x ≤ figureLimit)
+              → (lo′ ≤ x) × (x < loweredBy b end (getD us (suc d) 0) s′)
+          there x (k, l) =
+              let (n, a) = next x l .0 k in
+              let (u, v) = N .counts x .0 (n, l) in
+              (omega (arith, a .0), lowered-iff b _ _ _ x .1 (v, a .1))
+
+          back : (x : ℕ) → (lo′ ≤ x) × (x < loweredBy b end (getD us (suc d) 0) s′)
+              → KeptTo p (then xs x) (suc (suc d)) × (x ≤ figureLimit)
+          back x (u, v) =
+              let (e, m) = lowered-iff b _ _ _ x .0 v in
+              let (k, l) = N .counts x .1 (omega arith, e) in
+              (next x l .1 (k, (omega arith, m)), l)
 
       -- A turn: cut off at 0, the differences of the next figures and the sum narrow the limits.
       pub narrowed-more
-          : (low up : ℕ) → low ≡ getD ls (d + 1) 0 - s′ → up ≡ getD us (d + 1) 0 + 1 - s′
-          → lo′ ≡ max lo low → end′ ≡ min end up → Narrowed lo′ end′ s′ (d + 1)
-      narrowed-more low up a b p₁ p₂ =
+          : (low : ℕ) → s′ ≤ (d + 1) * countLimit → low ≡ getD ls (d + 1) 0 - s′ → lo′ ≡ max lo low
+          → end′ ≡ loweredBy b end (getD us (d + 1) 0) s′ → Narrowed lo′ end′ s′ (d + 1)
+      narrowed-more low c a p₁ p₂ =
           rw (add-one d)
-          (more (omega (arith, ap (λ k. getD ls k 0) (add-one d))) (omega (arith, ap (λ k. getD us k 0) (add-one d))))
+          (more (omega arith) (omega (arith, ap (λ k. getD ls k 0) (add-one d)))
+          (p₂ ∙ ap (λ k. loweredBy b end (getD us k 0) s′) (add-one d)))
 
   -- There is no window left.
   pub narrowed-whole
-      : (lo end s d : ℕ) → Narrowed lo end s d → length xs ≤ d → (x : ℕ) → Keeps p (then xs x) ↔ ((lo ≤ x) × (x < end))
-  narrowed-whole lo end s d N h x = ((λ k. N .counts x .0 (λ e l j. k e j)), back)
+      : (lo end s d : ℕ) → Narrowed lo end s d → length xs ≤ d → (x : ℕ)
+      → (Keeps p (then xs x) × (x ≤ figureLimit)) ↔ ((lo ≤ x) × (x < end))
+  narrowed-whole lo end s d N h x = ((λ k. N .counts x .0 ((λ e l j. k .0 e j), k .1)), back)
     where
-      back : (lo ≤ x) × (x < end) → Keeps p (then xs x)
-      back r e j =
-          N .counts x .1 r e (let b : e ≤ length (then xs x) = j .begun in omega (arith, length-then xs x)) j
+      back : (lo ≤ x) × (x < end) → Keeps p (then xs x) × (x ≤ figureLimit)
+      back r =
+          let (k, l) = N .counts x .1 r in
+          ((λ e j. k e (let b : e ≤ length (then xs x) = j .begun in omega (arith, length-then xs x)) j), l)
 
 -- ---- the count that a choice leads to
 -- The definition divides by the same number, written as a successor.
@@ -114,18 +157,21 @@ chosen-below lo hi choice h = omega (arith, chosen-is lo hi choice, chosen-withi
 module _ (v : View) (L : Legal v) (l : Limits) (b : Limited v l) where
   -- Where there is a count, the largest is within the limit, and so are all.
   pub limits-small : Small l
-  limits-small h =
-      let m : l .end - 1 ≤ figureLimit = count-limited v L (l .end - 1) (b (l .end - 1) .1 (omega arith, omega arith)) in
-      omega arith
+  limits-small h = omega (arith, b (l .end - 1) .1 (omega arith, omega arith) .1)
+
+  -- They are those that can be sent.
+  sent-iff : (x : ℕ) → Sendable (v .pair) (v .held) x ↔ ((l .lo ≤ x) × (x < l .end))
+  sent-iff x =
+      let e = sendable-iff v L x in ((λ k. b x .0 (e .0 k)), (λ k. e .1 (b x .1 k)))
 
   -- What is shown of the limits is what the range answers.
   pub shown-range : (a : Admissible) → Shows l a → rangeReply a ≡ ranging v
   unfolding range-from
   shown-range (admissible.Range lo hi) (some, is-lo, is-hi) =
       (λ i. result (range-answer (is-lo i) (is-hi i)))
-      ∙ sym (ranging-range v L (range-from (v .pair) (v .held) (l .lo) (l .end) b some))
+      ∙ sym (ranging-range v L (range-from (l .lo) (l .end) sent-iff some))
   shown-range admissible.BadState s = absurd s
-  shown-range admissible.NoCount none = sym (ranging-none v L (no-range (v .pair) (v .held) (l .lo) (l .end) b none))
+  shown-range admissible.NoCount none = sym (ranging-none v L (no-range (l .lo) (l .end) sent-iff none))
 
 -- A range that is shown has a count, and none above the limit.
 pub chooses-where : (v : View) (a : Admissible) → rangeReply a ≡ ranging v → ChoosesWhere a

@@ -1,7 +1,7 @@
 -- What the public operations promise: the answer, and the state that comes back.
 use Prim.Native.Nat.{ℕ}
 use mathlib.Core.Path.{_≡_}
-use Rattle.curves.specs.Pairs.{Pair}
+use Rattle.curves.specs.Unlimited.{AnyPair}
 use Rattle.history.specs.States.{viewOf}
 use Rattle.history.specs.Opening.{Begun}
 use Rattle.generator.specs.declared.Generator.{Generator}
@@ -12,7 +12,7 @@ use Rattle.generator.specs.Generating.{ranging, sending, GeneratorNext}
 use Rattle.generator.specs.Opening.{generatorOpening}
 use Rattle.generator.specs.Answers.{generatorOpeningReply, rangeReply, sendingReply}
 
-pub record GeneratorOpened (p : Pair) (r : OpenedGenerator) : Type 0 where
+pub record GeneratorOpened (p : AnyPair) (r : OpenedGenerator) : Type 0 where
   pub answer : generatorOpeningReply (r .opening) ≡ generatorOpening p
   pub history : Begun (generatorOpening p) p (r .state .history)
 

@@ -1,7 +1,9 @@
 -- What the private functions of this crate promise each other. No public promise cites anything of it.
-use Prim.Native.Nat.{ℕ, zero, suc, _-_, _≤_, _<_}
+use Prim.Native.Nat.{ℕ, zero, suc, _+_, _-_, _≤_, _<_, min}
 use mathlib.Core.Path.{_≡_}
+use mathlib.Core.Bool.{Bool, true, false}
 use mathlib.Core.Logic.{_↔_}
+use Rattle.curves.specs.Unlimited.{curvesOf}
 use Rattle.curves.specs.Ticks.{then, Keeps}
 use Rattle.bounds.specs.Bounds.{figureLimit}
 use Rattle.closure.specs.declared.Closing.{Closing}
@@ -20,8 +22,8 @@ use Rattle.generator.specs.declared.Limits.{Limits}
 -- ---- an opening
 -- What it answers to what closing answered: ready after no round. With room for every horizon closing is not refused with 3.
 abbrev pub generatorOpeningFor : Closing → GeneratorOpening
-generatorOpeningFor (closing.Closed zero) = opening.Opened
-generatorOpeningFor (closing.Closed (suc n)) = opening.NotClosed
+generatorOpeningFor (closing.Closed zero b) = opening.Opened
+generatorOpeningFor (closing.Closed (suc n) b) = opening.NotClosed
 generatorOpeningFor closing.UpperLength = opening.UpperLength
 generatorOpeningFor closing.LowerLength = opening.LowerLength
 generatorOpeningFor closing.ResultLength = opening.NotClosed
@@ -43,9 +45,14 @@ AddsSent (sending.Sent x) v = Legal v
 AddsSent sending.BadState v = Unit {0}
 AddsSent sending.NoCount v = Unit {0}
 
--- The counts that the next tick can have are those from lo to before end.
+-- The counts that keep every judged window, up to the limit of figures, are those from lo to before end.
 abbrev pub Limited : View → Limits → Type 0
-Limited v r = (x : ℕ) → Keeps (v .pair) (then (v .held) x) ↔ ((r .lo ≤ x) × (x < r .end))
+Limited v r = (x : ℕ) → (Keeps (curvesOf (v .pair)) (then (v .held) x) × (x ≤ figureLimit)) ↔ ((r .lo ≤ x) × (x < r .end))
+
+-- What a window with the ceiling u, of whose ticks those before the next one have the sum s, leaves of an end; by the pair's mark.
+abbrev pub loweredBy : Bool → ℕ → ℕ → ℕ → ℕ
+loweredBy true end u s = end
+loweredBy false end u s = min end (u + 1 - s)
 
 -- Where there is such a count, all are within the limit of figures.
 abbrev pub Small : Limits → Type 0

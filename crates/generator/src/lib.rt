@@ -1,18 +1,24 @@
 // The generator (document 01's maker): sends, tick after tick, a count that keeps every window that ends there.
 
+use bounds::Asked;
 use closure::Closing;
 use history::History;
 use history::Legality;
 ghost use mathlib.Core.Path.{_≡_};
 ghost use Prim.Native.Nat.{min, max, _-_};
-ghost use Rattle.curves.specs.Pairs.{pairOf};
+ghost use mathlib.Core.Bool.{true};
+ghost use Rattle.curves.specs.Unlimited.{withMark};
 ghost use Rattle.history.specs.States.{viewOf, added, Legal};
 ghost use Rattle.history.specs.Steps.{Slices, viewWith};
 ghost use Rattle.generator.specs.Generating.{sentFrom, GeneratorNext};
 ghost use Rattle.generator.specs.Opening.{generatorOpening};
 ghost use Rattle.generator.specs.Answers.{generatorOpeningReply, rangeReply, sendingReply};
 ghost use Rattle.generator.specs.Promises.{GeneratorOpened, GeneratorTicked, GeneratorRanged};
-ghost use Rattle.generator.specs.Steps.{generatorOpeningFor, historyFor, Limited, Small, Shows, ChoosesWhere, AddsSent};
+ghost use Rattle.generator.specs.Steps.{generatorOpeningFor, historyFor, Limited, loweredBy, Small, Shows, ChoosesWhere};
+ghost use Rattle.generator.specs.Steps.{AddsSent};
+
+// One above the largest figure: no count above that figure is sent.
+const COUNT_END: u64 = 16_776_961;
 
 // Anyone may build one.
 pub struct Generator {
@@ -27,9 +33,10 @@ pub enum GeneratorOpening {
     UpperLength,
     // 2: the lower list has another length.
     LowerLength,
-    // 4: a figure is above 16,776,960.
+    // 4: a figure is above 16,776,960; without ceilings, a least is.
     FigureLimit,
-    // 15: closing would change the pair, or finds no closure. On what closing gives this is never the answer.
+    // 15: the pair is not its own closure, or has none; without ceilings, some least is below the sum of those of two parts of its window.
+    // On what closing gives this is never the answer.
     NotClosed,
 }
 
@@ -42,7 +49,8 @@ pub struct OpenedGenerator {
 pub enum Admissible {
     // The smallest and the largest count that can be sent.
     Range { lo: u32, hi: u32 },
-    // 12: the state has no legal horizon, a figure above 16,776,960, or as many held ticks as its horizon or more.
+    // 12: the state has no legal horizon, a figure above 16,776,960 (without ceilings, a least), or as many held ticks as its horizon or
+    // more.
     BadState,
     // 13: no count keeps every window that ends at the next tick. No opening, whatever ticks follow it, leads to such a state.
     NoCount,
@@ -68,12 +76,12 @@ struct Limits {
 
 impl Generator {
     // A generator on the pair of `upper` and `lower`, entry 0 for the window of one tick, which must be its own closure; where the opening
-    // is refused, all of the state is 0.
-    pub fn open(upper: &[u32], lower: &[u32]) -> OpenedGenerator
-        ensures { λ r. ⌜ GeneratorOpened (pairOf (now (upper .entry)) (now (lower .entry))) r ⌝ }
+    // is refused, all of the state is 0. Where `unlimited` is set the pair has no ceilings: `upper` gives the horizon alone.
+    pub fn open(upper: &[u32], lower: &[u32], unlimited: bool) -> OpenedGenerator
+        ensures { λ r. ⌜ GeneratorOpened (withMark (now (upper .entry)) (now (lower .entry)) unlimited) r ⌝ }
     {
-        let opening = ask_opening(upper, lower);
-        let start = History::open(upper, lower);
+        let opening = ask_opening(upper, lower, unlimited);
+        let start = History::open(upper, lower, unlimited);
         let history = start.history;
         let state = begin(opening, history);
         OpenedGenerator { opening, state }
@@ -100,13 +108,34 @@ impl Generator {
     }
 }
 
-// Questions 1, 2, 4 and 15, by closing the pair: what it gives is not needed.
-fn ask_opening(upper: &[u32], lower: &[u32]) -> GeneratorOpening
-    ensures { λ r. ⌜ generatorOpeningReply r ≡ generatorOpening (pairOf (now (upper .entry)) (now (lower .entry))) ⌝ }
+// Questions 1, 2, 4 and 15: of a pair with ceilings by closing it, where what it gives is not needed.
+fn ask_opening(upper: &[u32], lower: &[u32], unlimited: bool) -> GeneratorOpening
+    ensures { λ r. ⌜ generatorOpeningReply r ≡ generatorOpening (withMark (now (upper .entry)) (now (lower .entry)) unlimited) ⌝ }
 {
+    if unlimited {
+        return ask_leasts(upper, lower);
+    }
     let mut closed_upper = lists::zeros();
     let mut closed_lower = lists::zeros();
-    opening_for(closure::close(upper, lower, &mut closed_upper, &mut closed_lower))
+    opening_for(closure::close(upper, lower, false, &mut closed_upper, &mut closed_lower))
+}
+
+// Of a pair without ceilings: it is its own closure where no least is below the sum of those of two parts of its window.
+fn ask_leasts(upper: &[u32], lower: &[u32]) -> GeneratorOpening
+    ensures { λ r. ⌜ generatorOpeningReply r ≡ generatorOpening (withMark (now (upper .entry)) (now (lower .entry)) true) ⌝ }
+{
+    match bounds::ask(upper, lower, true) {
+        Asked::Passes => {
+            if closure::superadditive(lower) {
+                GeneratorOpening::Opened
+            } else {
+                GeneratorOpening::NotClosed
+            }
+        }
+        Asked::UpperLength => GeneratorOpening::UpperLength,
+        Asked::LowerLength => GeneratorOpening::LowerLength,
+        Asked::FigureLimit => GeneratorOpening::FigureLimit,
+    }
 }
 
 // What an opening answers to what closing answered: a pair that takes no round is its own closure. 3 cannot come, as there is room for
@@ -115,7 +144,10 @@ fn opening_for(closing: Closing) -> GeneratorOpening
     ensures { λ r. ⌜ r ≡ generatorOpeningFor closing ⌝ }
 {
     match closing {
-        Closing::Closed { rounds } => {
+        Closing::Closed {
+            rounds,
+            unlimited: _,
+        } => {
             if rounds == 0 {
                 GeneratorOpening::Opened
             } else {
@@ -211,26 +243,41 @@ fn find_limits(history: History) -> Limits
     let upper = history.upper;
     let lower = history.lower;
     let ticks = history.ticks;
-    limit(&upper[..horizon], &lower[..horizon], &ticks[..held])
+    limit(
+        &upper[..horizon],
+        &lower[..horizon],
+        history.unlimited,
+        &ticks[..held],
+    )
 }
 
 // Window after window; `sum` has the d ticks before the next one.
-fn limit(upper: &[u32], lower: &[u32], ticks: &[u32]) -> Limits
+fn limit(upper: &[u32], lower: &[u32], unlimited: bool, ticks: &[u32]) -> Limits
     requires { ⌜ Slices (now upper) (now lower) (now ticks) ⌝ }
-    ensures { λ r. ⌜ Limited (viewWith (now (upper .entry)) (now (lower .entry)) (now (ticks .entry))) r ⌝ }
+    ensures { λ r. ⌜ Limited (viewWith (now (upper .entry)) (now (lower .entry)) unlimited (now (ticks .entry))) r ⌝ }
 {
     let held = ticks.len();
     let mut lo = lower[0] as u64;
-    let mut end = upper[0] as u64 + 1;
+    let mut end = lowered(COUNT_END, upper[0], unlimited, 0);
     let mut sum = 0;
     let mut d = 0;
     while d < held {
         sum += ticks[held - 1 - d] as u64;
         d += 1;
         lo = larger(lo, difference(lower[d] as u64, sum));
-        end = smaller(end, difference(upper[d] as u64 + 1, sum));
+        end = lowered(end, upper[d], unlimited, sum);
     }
     Limits { lo, end }
+}
+
+// The end of the counts that a window with this ceiling leaves; without ceilings it stays.
+fn lowered(end: u64, ceiling: u32, unlimited: bool, sum: u64) -> u64
+    ensures { λ r. ⌜ r ≡ loweredBy unlimited end ceiling sum ⌝ }
+{
+    if unlimited {
+        return end;
+    }
+    smaller(end, difference(ceiling as u64 + 1, sum))
 }
 
 fn larger(a: u64, b: u64) -> u64

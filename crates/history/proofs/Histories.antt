@@ -1,6 +1,6 @@
 -- Laws over plain variables that the proofs about a history cite.
 -- Assumes nothing.
-use Rattle.laws.proofs.Base.{ℕ, _≤_, _<_, _≡_, refl, sym, ap, _∙_, subst, subst⁻¹, Bool, List, [], _∷_, _++_, arith}
+use Rattle.laws.proofs.Base.{ℕ, _≤_, _<_, _≡_, refl, sym, ap, _∙_, subst, subst⁻¹, Bool, false, List, [], _∷_, _++_, arith}
 use Rattle.laws.proofs.Base.{length, take, drop, replicate, length-append, length-replicate, length-take-le, ext-getD, take-at}
 use types.Run.{OneOf, miss}
 use denote.Enum.Declared.{tagOf}
@@ -9,13 +9,16 @@ use Rattle.lists.specs.Copying.{Copied}
 use Rattle.lists.proofs.Whole.{beginning}
 use Rattle.laws.specs.Ranges.{table}
 use Rattle.laws.proofs.Table.{length-table, getD-table}
-use Rattle.curves.specs.Pairs.{Pair, figure, pairOf, horizon}
+use Rattle.curves.specs.Pairs.{figure, horizon}
+use Rattle.curves.specs.Unlimited.{AnyPair, withMark, curvesOf}
+use Rattle.curves.proofs.Highest.{horizon-with}
 use Rattle.curves.specs.Questions.{AllYes}
-use Rattle.bounds.specs.Bounds.{Bounded, maxHorizon, question4, pairQuestions, asking}
+use Rattle.bounds.specs.Bounds.{maxHorizon, question2, question4, pairQuestions, asking}
 use Rattle.bounds.specs.declared.Asked.{Asked}
 use Rattle.bounds.specs.declared.Asked.the-variants.{Passes, UpperLength, LowerLength, FigureLimit}
 use Rattle.bounds.specs.Answers.{askedReply}
 use Rattle.bounds.proofs.Said.{yes-from}
+use Rattle.bounds.proofs.Laws.{even-with}
 use Rattle.history.specs.declared.History.{History}
 use Rattle.history.specs.declared.Opening.{Opening}
 use Rattle.history.proofs.Opening.{the-type}
@@ -43,8 +46,8 @@ pub record Sizes (h : History) : Type 0 where
 
 module _ (s : History) where
   -- A view has as many figures and held ticks as the two fields say.
-  pub horizon-seen : horizon (viewOf s .pair) ≡ s .horizon
-  horizon-seen = length-table (figure 0 (s .upper)) (s .horizon)
+  pub horizon-seen : horizon (curvesOf (viewOf s .pair)) ≡ s .horizon
+  horizon-seen = horizon-with _ _ (s .unlimited) ∙ length-table (figure 0 (s .upper)) (s .horizon)
 
   pub held-seen : length (viewOf s .held) ≡ s .held
   held-seen = length-table (figure 0 (s .ticks)) (s .held)
@@ -55,24 +58,21 @@ module _ (s : History) where
 
   -- And of the figures, where the arrays have one for each window up to the horizon.
   module _ (u : s .horizon ≤ length (s .upper)) (v : s .horizon ≤ length (s .lower)) where
-    abbrev uppers : List ℕ
-    uppers = take (s .horizon) (s .upper)
+    abbrev pub sliced : AnyPair
+    sliced = withMark (take (s .horizon) (s .upper)) (take (s .horizon) (s .lower)) (s .unlimited)
 
-    abbrev lowers : List ℕ
-    lowers = take (s .horizon) (s .lower)
+    pair-seen : viewOf s .pair ≡ sliced
+    pair-seen =
+        λ i. withMark (entries-take (s .horizon) (s .upper) u i) (entries-take (s .horizon) (s .lower) v i) (s .unlimited)
 
-    pair-seen : viewOf s .pair ≡ pairOf uppers lowers
-    pair-seen = λ i. pairOf (entries-take (s .horizon) (s .upper) u i) (entries-take (s .horizon) (s .lower) v i)
+    pub legal-bounded : Legal (viewOf s) → question4 sliced .asked
+    legal-bounded l = subst (λ (p : AnyPair). question4 p .asked) pair-seen (l .figures)
 
-    pub legal-bounded : Legal (viewOf s) → Bounded uppers × Bounded lowers
-    legal-bounded l = subst (λ (p : Pair). question4 p .asked) pair-seen (l .figures)
-
-    pub bounded-legal
-        : Sizes s → Bounded uppers × Bounded lowers → Legal (viewOf s)
+    pub bounded-legal : Sizes s → question4 sliced .asked → Legal (viewOf s)
     bounded-legal r b =
         record {
           lengths = (omega (arith, horizon-seen), omega (arith, horizon-seen));
-          figures = subst⁻¹ (λ (p : Pair). question4 p .asked) pair-seen b;
+          figures = subst⁻¹ (λ (p : AnyPair). question4 p .asked) pair-seen b;
           fewer = omega (arith, horizon-seen, held-seen);
         }
 
@@ -91,12 +91,12 @@ entries-padded us rest h e =
 -- Three arrays of zeros make a history of zeros.
 pub zero-history-is
     : (us ls xs : List ℕ) → us ≡ replicate maxHorizon 0 → ls ≡ replicate maxHorizon 0 → xs ≡ replicate maxHorizon 0
-    → historyOf 0 us ls 0 xs ≡ zeroHistory
+    → historyOf 0 us ls false 0 xs ≡ zeroHistory
 unfolding zeroHistory
-zero-history-is us ls xs u l x = λ i. historyOf 0 (u i) (l i) 0 (x i)
+zero-history-is us ls xs u l x = λ i. historyOf 0 (u i) (l i) false 0 (x i)
 
 -- ---- the answer of an opening
-module _ (p : Pair) where
+module _ (p : AnyPair) where
   pub answers : (a : Asked) → askedReply a ≡ asking p → openingReply (openingFor a) ≡ opening p
   answers Passes e = e
   answers UpperLength e = e
@@ -108,7 +108,7 @@ module _ (p : Pair) where
   opened-yes o k e = yes-from p (sym e ∙ ap openingReply k)
 
 -- The history that is handed out, in the arm where it is not refused, and in the one for all else.
-module _ (p : Pair) (h : History) (o : Opening) (e : openingReply o ≡ opening p) where
+module _ (p : AnyPair) (h : History) (o : Opening) (e : openingReply o ≡ opening p) where
   pub begun-fresh : o ≡ Opened → viewOf h ≡ fresh p → Begun (opening p) p h
   begun-fresh k v = rw (← e, k) v
 
@@ -122,13 +122,21 @@ module _ (p : Pair) (h : History) (o : Opening) (e : openingReply o ≡ opening 
       refused opening.FigureLimit m = b
 
 -- ---- the history that an opening hands out
+-- Both lists fit into the arrays.
+pub lists-fit : (us ls : List ℕ) (b : Bool) → AllYes (pairQuestions (withMark us ls b))
+    → (length us ≤ maxHorizon) × (length ls ≤ maxHorizon)
+lists-fit us ls b ys =
+    let e = horizon-with us ls b in
+    let f = even-with us ls b .0 (ys .1 .0) in
+    (omega (arith, ys .0 .1), omega (arith, ys .0 .1))
+
 -- It is not refused: the figures are held, and no tick.
 pub unbegun-is
-    : (us ls upper lower ticks : List ℕ) → upper ≡ paddedTo us → lower ≡ paddedTo ls → length ls ≡ length us
-    → viewOf (historyOf (length us) upper lower 0 ticks) ≡ fresh (pairOf us ls)
+    : (us ls upper lower ticks : List ℕ) (b : Bool) → upper ≡ paddedTo us → lower ≡ paddedTo ls → question2 (withMark us ls b) .asked
+    → viewOf (historyOf (length us) upper lower b 0 ticks) ≡ fresh (withMark us ls b)
 unfolding table
-unbegun-is us ls upper lower ticks u l e =
+unbegun-is us ls upper lower ticks b u l e =
     λ i. viewWith
     ((ap (entries (length us)) u ∙ entries-padded us _ (length us) refl) i)
-    ((ap (entries (length us)) l ∙ entries-padded ls _ (length us) e) i)
-    []
+    ((ap (entries (length us)) l ∙ entries-padded ls _ (length us) (even-with us ls b .0 e)) i)
+    b []

@@ -1,9 +1,10 @@
 -- What private functions promise each other, here and in the crates above. No public promise cites anything of it.
 use Prim.Native.Nat.{ℕ, _≤_, _<_}
 use mathlib.Core.Path.{_≡_}
+use mathlib.Core.Bool.{Bool}
 use mathlib.Core.List.{List, _++_}
 use lib.ListN.{length, drop, replicate}
-use Rattle.curves.specs.Pairs.{pairOf}
+use Rattle.curves.specs.Unlimited.{withMark}
 use Rattle.bounds.specs.Bounds.{maxHorizon}
 use Rattle.bounds.specs.declared.Asked.{Asked}
 use Rattle.bounds.specs.declared.Asked.the-variants as asked
@@ -28,5 +29,6 @@ pub record Slices (us ls xs : List ℕ) : Type 0 where
   pub within : length us ≤ maxHorizon
   pub fewer : length xs < length us
 
-abbrev pub viewWith : List ℕ → List ℕ → List ℕ → View
-viewWith us ls xs = record { pair = pairOf us ls; held = xs }
+-- The view of figures, the pair's mark and held ticks.
+abbrev pub viewWith : List ℕ → List ℕ → Bool → List ℕ → View
+viewWith us ls b xs = record { pair = withMark us ls b; held = xs }

@@ -4,7 +4,7 @@ use bounds::Asked;
 ghost use mathlib.Core.Path.{_≡_};
 ghost use Prim.Native.Nat.{_≤_};
 ghost use lib.ListN.{length};
-ghost use Rattle.curves.specs.Pairs.{pairOf};
+ghost use Rattle.curves.specs.Unlimited.{withMark};
 ghost use Rattle.curves.specs.Questions.{AllYes};
 ghost use Rattle.bounds.specs.Bounds.{maxHorizon, pairQuestions};
 ghost use Rattle.history.specs.States.{viewOf, legality};
@@ -13,8 +13,10 @@ ghost use Rattle.history.specs.Answers.{openingReply, legalityReply};
 ghost use Rattle.history.specs.Promises.{HistoryOpened, LegalityAsked};
 ghost use Rattle.history.specs.Steps.{openingFor, paddedTo};
 
-// The longest horizon.
+// The longest horizon, and the largest figure.
 const MAX_HORIZON: usize = 256;
+
+const FIGURE_LIMIT: u32 = 16_776_960;
 
 // Anyone may build one. Entries of the figures past the horizon, and of the ticks past the held ones, have no effect.
 pub struct History {
@@ -22,6 +24,8 @@ pub struct History {
     // The figures of both curves; entry 0 for the window of one tick.
     pub upper: [u32; MAX_HORIZON],
     pub lower: [u32; MAX_HORIZON],
+    // The pair has no ceilings: those in `upper` have no effect.
+    pub unlimited: bool,
     // How many ticks are held: fewer than the horizon.
     pub held: usize,
     // The held ticks in the order of the stream: entry 0 is the oldest.
@@ -35,7 +39,7 @@ pub enum Opening {
     UpperLength,
     // 2: the lower list has another length.
     LowerLength,
-    // 4: a figure is above 16,776,960.
+    // 4: a figure is above 16,776,960; ceilings count where there are any, here and below.
     FigureLimit,
 }
 
@@ -54,11 +58,11 @@ pub enum Legality {
 
 impl History {
     // The history of a stream that has not begun; where the opening is refused, all of it is 0.
-    pub fn open(upper: &[u32], lower: &[u32]) -> OpenedHistory
-        ensures { λ r. ⌜ HistoryOpened (pairOf (now (upper .entry)) (now (lower .entry))) r ⌝ }
+    pub fn open(upper: &[u32], lower: &[u32], unlimited: bool) -> OpenedHistory
+        ensures { λ r. ⌜ HistoryOpened (withMark (now (upper .entry)) (now (lower .entry)) unlimited) r ⌝ }
     {
-        let opening = ask_opening(upper, lower);
-        let history = begin(opening, upper, lower);
+        let opening = ask_opening(upper, lower, unlimited);
+        let history = begin(opening, upper, lower, unlimited);
         OpenedHistory { opening, history }
     }
 
@@ -73,6 +77,7 @@ impl History {
             horizon: 0,
             upper,
             lower,
+            unlimited: false,
             held: 0,
             ticks,
         }
@@ -84,7 +89,7 @@ impl History {
     {
         let upper = self.upper;
         let lower = self.lower;
-        ask_legality(self.horizon, &upper, &lower, self.held)
+        ask_legality(self.horizon, &upper, &lower, self.unlimited, self.held)
     }
 }
 
@@ -93,9 +98,10 @@ pub fn ask_legality(
     horizon: usize,
     upper: &[u32; MAX_HORIZON],
     lower: &[u32; MAX_HORIZON],
+    unlimited: bool,
     held: usize,
 ) -> Legality
-    ensures { λ r. ⌜ LegalityAsked horizon (now (upper .entry)) (now (lower .entry)) held r ⌝ }
+    ensures { λ r. ⌜ LegalityAsked horizon (now (upper .entry)) (now (lower .entry)) unlimited held r ⌝ }
 {
     if MAX_HORIZON < horizon {
         return Legality::BadState;
@@ -105,18 +111,22 @@ pub fn ask_legality(
     }
     let upper_figures: &[u32] = upper;
     let lower_figures: &[u32] = lower;
-    if !(bounds::within_limit(&upper_figures[..horizon])
-        & bounds::within_limit(&lower_figures[..horizon])) {
+    if !bounds::all_within(
+        &upper_figures[..horizon],
+        &lower_figures[..horizon],
+        unlimited,
+        FIGURE_LIMIT,
+    ) {
         return Legality::BadState;
     }
     Legality::Legal
 }
 
 // Questions 1, 2 and 4.
-fn ask_opening(upper: &[u32], lower: &[u32]) -> Opening
-    ensures { λ r. ⌜ openingReply r ≡ opening (pairOf (now (upper .entry)) (now (lower .entry))) ⌝ }
+fn ask_opening(upper: &[u32], lower: &[u32], unlimited: bool) -> Opening
+    ensures { λ r. ⌜ openingReply r ≡ opening (withMark (now (upper .entry)) (now (lower .entry)) unlimited) ⌝ }
 {
-    opening_for(bounds::ask(upper, lower))
+    opening_for(bounds::ask(upper, lower, unlimited))
 }
 
 // What an opening answers to what was found of the lists.
@@ -132,21 +142,21 @@ fn opening_for(asked: Asked) -> Opening
 }
 
 // The history that an opening hands out.
-fn begin(answer: Opening, upper: &[u32], lower: &[u32]) -> History
-    requires { ⌜ openingReply answer ≡ opening (pairOf (now upper) (now lower)) ⌝ }
-    ensures { λ r. ⌜ Begun (opening (pairOf (now (upper .entry)) (now (lower .entry))))
-        (pairOf (now (upper .entry)) (now (lower .entry))) r ⌝ }
+fn begin(answer: Opening, upper: &[u32], lower: &[u32], unlimited: bool) -> History
+    requires { ⌜ openingReply answer ≡ opening (withMark (now upper) (now lower) unlimited) ⌝ }
+    ensures { λ r. ⌜ Begun (opening (withMark (now (upper .entry)) (now (lower .entry)) unlimited))
+        (withMark (now (upper .entry)) (now (lower .entry)) unlimited) r ⌝ }
 {
     match answer {
-        Opening::Opened => unbegun(upper, lower),
+        Opening::Opened => unbegun(upper, lower, unlimited),
         _ => History::zero(),
     }
 }
 
 // That of a stream that has not begun.
-fn unbegun(upper: &[u32], lower: &[u32]) -> History
-    requires { ⌜ AllYes (pairQuestions (pairOf (now upper) (now lower))) ⌝ }
-    ensures { λ r. ⌜ viewOf r ≡ fresh (pairOf (now (upper .entry)) (now (lower .entry))) ⌝ }
+fn unbegun(upper: &[u32], lower: &[u32], unlimited: bool) -> History
+    requires { ⌜ AllYes (pairQuestions (withMark (now upper) (now lower) unlimited)) ⌝ }
+    ensures { λ r. ⌜ viewOf r ≡ fresh (withMark (now (upper .entry)) (now (lower .entry)) unlimited) ⌝ }
 {
     let horizon = upper.len();
     let upper_figures = padded(upper);
@@ -156,6 +166,7 @@ fn unbegun(upper: &[u32], lower: &[u32]) -> History
         horizon,
         upper: upper_figures,
         lower: lower_figures,
+        unlimited,
         held: 0,
         ticks,
     }

@@ -1,14 +1,21 @@
 -- Laws over plain variables for the two loops over the windows that end at a tick: what a turn of either keeps, the verdict at each way out
 -- of the judge's, and the smallest margin, which the other finds.
 -- Assumes nothing.
-use Rattle.laws.proofs.Base.{ℕ, suc, _+_, _-_, _≤_, _<_, _≡_, sym, ap, subst, List, add-one, arith, length, getD}
-use lib.IntN.{ℤ, pos}
-use lib.Signed.{_≤ℤ_, _<ℤ_}
-use Rattle.curves.specs.Pairs.{Pair, pairOf, figure}
-use Rattle.curves.specs.Conformance.{TooMany, TooFew}
+use Rattle.laws.proofs.Base.{ℕ, suc, _+_, _-_, _*_, _≤_, _<_, _≡_, refl, sym, ap, subst, Bool, true, false, _&&_, List, decLt, add-one}
+use Rattle.laws.proofs.Base.{ltb, arith, length, getD}
+use mathlib.Core.Bool.{not}
+use borrow.Author.Tests.{ltb-true, ltb-false}
+use lib.IntN.{ℤ, pos, _-ℤ_}
+use lib.Signed.{_≤ℤ_, _<ℤ_, leZ, clashℤ}
+use Rattle.laws.proofs.Whole.{le-parts, parts-le, minus-parts}
+use Rattle.curves.specs.Streams.{countLimit}
+use Rattle.curves.specs.Pairs.{Pair, figure}
+use Rattle.curves.specs.Unlimited.{AnyPair, withMark, curvesOf}
+use Rattle.curves.specs.Conformance.{TooMany, TooFew, Inside}
 use Rattle.curves.specs.Ticks.{then, last, Judged, Verdict, passed, tooMany, tooFew, Right}
-use Rattle.curves.specs.Margins.{marginBetween, Margin, Tightest}
+use Rattle.curves.specs.Margins.{Margin, Tightest}
 use Rattle.curves.specs.Questions.{result}
+use Rattle.curves.proofs.Highest.{highest-at}
 use Rattle.curves.proofs.NextTick.{last-none, last-more, length-then, last-next}
 use Rattle.curves.proofs.Verdicts.{KeptTo, kept-more, shortest, verdict-is}
 use Rattle.curves.proofs.Margins.{left-between, below-between, marginAt, TightestTo, tightest-one, tightest-kept, tightest-new}
@@ -16,10 +23,82 @@ use Rattle.curves.proofs.Margins.{tightest-all}
 use Rattle.history.proofs.Slicing.{judged-next}
 use Rattle.history.specs.Steps.{Slices, viewWith}
 use Rattle.monitor.specs.Monitoring.{judged, verdictOn}
+use Rattle.monitor.specs.Steps.{marginWith}
 
-module _ (us ls xs : List ℕ) (count : ℕ) where
-  abbrev p : Pair
-  p = pairOf us ls
+-- ---- the margin of a window
+-- The difference from the ceiling, where there is one and it is not the larger; else the one from the least.
+module _ (b : Bool) (u l x : ℕ) where
+  abbrev less : Bool → Bool
+  less b = not b && leZ (pos u -ℤ pos x) (pos x -ℤ pos l)
+
+  pub margin-above : less b ≡ true → pos u -ℤ pos x ≡ marginWith b u l x
+  margin-above = go b
+    where
+      go : (b : Bool) → less b ≡ true → pos u -ℤ pos x ≡ marginWith b u l x
+      go false e = rw e refl
+      go true e = let z : _≡_ {A = ℕ} 0 1 = cc in absurd (omega arith)
+
+  pub margin-below : less b ≡ false → pos x -ℤ pos l ≡ marginWith b u l x
+  margin-below = go b
+    where
+      go : (b : Bool) → less b ≡ false → pos x -ℤ pos l ≡ marginWith b u l x
+      go false e = rw e refl
+      go true e = refl
+
+-- ---- one window
+-- What tells that it has too many: without ceilings nothing does.
+abbrev pub above : Bool → ℕ → ℕ → Bool
+above b u s = not b && ltb u s
+
+-- The figures of d + 1 ticks are the entries with index d, and s is a sum of as many counts.
+module _ (us ls : List ℕ) (d s : ℕ) where
+  -- Where there are no ceilings none is passed.
+  under-highest : d < length us → s ≤ (d + 1) * countLimit → ¬ TooMany (curvesOf (withMark us ls true)) (suc d) s
+  under-highest l c q = omega (arith, q, highest-at (length us) (suc d) (omega arith) l)
+
+  margin-with : (b : Bool) (ys : List ℕ) → last ys (suc d) ≡ s
+      → marginAt (withMark us ls b) ys (suc d) ≡ marginWith b (getD us d 0) (getD ls d 0) s
+  unfolding figure
+  margin-with false ys e = ap (marginWith false (getD us d 0) (getD ls d 0)) e
+  margin-with true ys e = ap (marginWith true (getD us d 0) (getD ls d 0)) e
+
+  -- It is not negative: both figures are kept.
+  inside-with : (b : Bool) → d < length us → s ≤ (d + 1) * countLimit → pos 0 ≤ℤ marginWith b (getD us d 0) (getD ls d 0) s
+      → Inside (curvesOf (withMark us ls b)) (suc d) s
+  unfolding figure
+  inside-with false l c h = let k = left-between (getD us d 0) (getD ls d 0) s 0 .0 h in ((λ q. omega arith), (λ q. omega arith))
+  inside-with true l c h =
+      let k = le-parts (pos 0) (pos s -ℤ pos (getD ls d 0)) h in
+      (under-highest l c, (λ q. omega (arith, minus-parts s (getD ls d 0))))
+
+  -- Or it is: the window has too many, or too few.
+  many-with : (b : Bool) → above b (getD us d 0) s ≡ true → TooMany (curvesOf (withMark us ls b)) (suc d) s
+  unfolding figure
+  many-with false e = ltb-true (getD us d 0) s e
+  many-with true e = let z : _≡_ {A = ℕ} 0 1 = cc in absurd (omega arith)
+
+  few-with : (b : Bool) → d < length us → s ≤ (d + 1) * countLimit → marginWith b (getD us d 0) (getD ls d 0) s <ℤ pos 0
+      → above b (getD us d 0) s ≡ false
+      → (¬ TooMany (curvesOf (withMark us ls b)) (suc d) s) × TooFew (curvesOf (withMark us ls b)) (suc d) s
+  unfolding figure
+  few-with false l c h e =
+      let m = ltb-false (getD us d 0) s e in
+      ((λ q. omega arith), below-between (getD us d 0) (getD ls d 0) s h (omega arith))
+  few-with true l c h e =
+      let k = minus-parts s (getD ls d 0) in (
+        under-highest l c,
+        elim (decLt s (getD ls d 0)) [
+          | yes f ↦ f
+          | no f ↦ absurd (clashℤ h (parts-le (pos 0) (pos s -ℤ pos (getD ls d 0)) (omega arith)))
+        ],
+      )
+
+module _ (us ls : List ℕ) (b : Bool) (xs : List ℕ) (count : ℕ) where
+  abbrev pub p : AnyPair
+  p = withMark us ls b
+
+  abbrev curves : Pair
+  curves = curvesOf p
 
   abbrev ys : List ℕ
   ys = then xs count
@@ -39,58 +118,49 @@ module _ (us ls xs : List ℕ) (count : ℕ) where
 
   -- The verdict is the one that is answered; and the right one is.
   abbrev pub IsAnswered : Verdict → Type 0
-  IsAnswered v = result (judged v) ≡ result (judged (verdictOn (viewWith us ls xs) count))
+  IsAnswered v = result (judged v) ≡ result (judged (verdictOn (viewWith us ls b xs) count))
 
-  right-found : (v : Verdict) → Right p ys v → IsAnswered v
-  right-found v r = ap (λ v. result (judged v)) (sym (verdict-is p ys v r))
+  right-found : (v : Verdict) → Right curves ys v → IsAnswered v
+  right-found v r = ap (λ v. result (judged v)) (sym (verdict-is curves ys v r))
 
   module _ (S : Slices us ls xs) (s d : ℕ) (R : SummedTo s d) where
-    -- What the turn looks at: its sum is the window's, and the entries with index d are the figures of d + 1 ticks.
+    -- What the turn looks at: its sum is the window's, and there are figures of d + 1 ticks.
     window : last ys (suc d) ≡ s
     window = omega (arith, last-next xs count d (R .held), R .summed)
 
-    is-judged : Judged p ys (suc d)
-    is-judged = judged-next us ls xs count d S (R .held)
+    wide : d < length us
+    wide = omega (arith, R .held, S .fewer)
+
+    is-judged : Judged curves ys (suc d)
+    is-judged = judged-next us ls xs b count d S (R .held)
 
     abbrev here : ℤ
-    here = marginBetween (getD us d 0) (getD ls d 0) s
+    here = marginWith b (getD us d 0) (getD ls d 0) s
 
     pub margin-is : marginAt p ys (suc d) ≡ here
-    unfolding figure
-    margin-is = ap (marginBetween (getD us d 0) (getD ls d 0)) window
+    margin-is = margin-with us ls d s b ys window
 
     -- Where there is no tick before it, no judged window is longer.
-    none-longer : length xs ≤ d → (e : ℕ) → Judged p ys e → e ≤ d + 1
+    none-longer : length xs ≤ d → (e : ℕ) → Judged curves ys e → e ≤ d + 1
     none-longer l e j = let b : e ≤ length ys = j .begun in omega (arith, length-then xs count)
 
     -- ---- judging: the windows of up to d ticks keep their figures
-    module _ (K : KeptTo p ys d) where
-      many : getD us d 0 < s → TooMany p (suc d) (last ys (suc d))
-      unfolding figure
-      many l = omega (arith, window)
-
-      few : s < getD ls d 0 → TooFew p (suc d) (last ys (suc d))
-      unfolding figure
-      few l = omega (arith, window)
-
+    module _ (small : s ≤ (d + 1) * countLimit) (K : KeptTo curves ys d) where
       -- The window of d + 1 ticks keeps its figures, too.
-      pub one-more : pos 0 ≤ℤ here → KeptTo p ys (d + 1)
-      unfolding figure
-      one-more h =
-          let k = left-between (getD us d 0) (getD ls d 0) s 0 .0 h in
-          rw (add-one d) (kept-more p ys d K (λ j. ((λ q. omega (arith, window)), (λ q. omega (arith, window)))))
+      pub one-more : pos 0 ≤ℤ here → KeptTo curves ys (d + 1)
+      one-more h = rw (add-one d) (kept-more curves ys d K (λ j. rw window (inside-with us ls d s b wide small h)))
 
       -- The ways out: it is outside, or there is no tick before it.
-      pub found-many : getD us d 0 < s → IsAnswered (tooMany (d + 1))
-      found-many l =
-          rw (add-one d) (right-found (tooMany (suc d)) (shortest p ys d K is-judged (λ i. i .0 (many l)), many l))
+      pub found-many : above b (getD us d 0) s ≡ true → IsAnswered (tooMany (d + 1))
+      found-many t =
+          let many : TooMany curves (suc d) (last ys (suc d)) = rw window (many-with us ls d s b t) in
+          rw (add-one d) (right-found (tooMany (suc d)) (shortest curves ys d K is-judged (λ i. i .0 many), many))
 
-      pub found-few : here <ℤ pos 0 → s ≤ getD us d 0 → IsAnswered (tooFew (d + 1))
-      unfolding figure
-      found-few h m =
-          let f = few (below-between (getD us d 0) (getD ls d 0) s h m) in
-          rw (add-one d)
-          (right-found (tooFew (suc d)) (shortest p ys d K is-judged (λ i. i .1 f), (λ q. omega (arith, window)), f))
+      pub found-few : here <ℤ pos 0 → above b (getD us d 0) s ≡ false → IsAnswered (tooFew (d + 1))
+      found-few h t =
+          let (most, few) : (¬ TooMany curves (suc d) (last ys (suc d))) × TooFew curves (suc d) (last ys (suc d)) =
+          rw window (few-with us ls d s b wide small h t) in
+          rw (add-one d) (right-found (tooFew (suc d)) (shortest curves ys d K is-judged (λ i. i .1 few), most, few))
 
       pub found-none : pos 0 ≤ℤ here → length xs ≤ d → IsAnswered passed
       found-none h l =

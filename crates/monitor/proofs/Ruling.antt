@@ -1,34 +1,50 @@
 -- Laws over plain variables for what follows from the margin and a run of the judge: the ruling, the held ticks and the next state.
 -- Assumes nothing.
-use Rattle.laws.proofs.Base.{ℕ, _-_, _≡_, refl, sym, ap, _∙_, subst⁻¹, Bool, true, false, List, [], _∷_, _++_, arith, take, drop}
+use Rattle.laws.proofs.Base.{ℕ, _-_, suc, _≤_, _≡_, refl, sym, ap, _∙_, subst⁻¹, Bool, true, false, List, [], _∷_, _++_, arith}
+use Rattle.laws.proofs.Base.{getD, take, drop}
+use Rattle.laws.specs.Tests.{Each}
 use lib.IntN.{pos}
 use lib.Signed.{_<ℤ_, _≤ℤ_}
 use types.Run.{OneOf, miss}
 use denote.Enum.Declared.{tagOf}
-use Rattle.curves.specs.Pairs.{horizon}
+use Rattle.curves.specs.Streams.{countLimit}
+use Rattle.curves.specs.Pairs.{Pair, pairOf}
+use Rattle.curves.specs.Unlimited.{AnyPair, limited, withMark, curvesOf, alike}
 use Rattle.curves.specs.Ticks as ticks
-use Rattle.curves.specs.Margins.{Margin, Tightest}
+use Rattle.curves.specs.Margins.{Margin, Counted, Tightest}
 use Rattle.curves.specs.Questions.{result}
 use Rattle.curves.proofs.Verdicts.{verdict?, verdict-is}
 use Rattle.curves.proofs.Margins.{tightest-negative, tightest-keeps}
+use Rattle.bounds.specs.Bounds.{question4}
 use Rattle.lists.specs.Pushing.{Pushed}
 use Rattle.history.specs.declared.History.{History}
-use Rattle.history.specs.States.{View, historyOf, viewOf, added, Legal}
-use Rattle.history.proofs.Histories.{horizon-seen, held-seen}
-use Rattle.history.proofs.Slicing.{Arrays, some-window, tick-for-each, added-is}
+use Rattle.history.specs.States.{View, entries, historyOf, viewOf, added, Legal}
+use Rattle.history.proofs.Histories.{entries-take, Sizes, legal-sizes}
+use Rattle.history.proofs.Slicing.{Arrays, some-window, tick-for-each, added-is, upper-room, lower-room}
 use Rattle.monitor.specs.declared.Monitor.{Monitor}
 use Rattle.monitor.specs.declared.windows.Finding.{Finding}
 use Rattle.monitor.specs.declared.Verdict.{Verdict}
 use Rattle.monitor.specs.declared.Verdict.the-variants.{Passed, TooMany, TooFew, Lost, AlreadyFailed, BadState}
 use Rattle.monitor.proofs.Verdict.{the-type}
-use Rattle.monitor.specs.Monitoring.{MonitorView, monitorView, monitorOf, monitorViewOf, closedView, LegalMonitor, verdictOn}
-use Rattle.monitor.specs.Monitoring.{judged, lost, ruled, judging, afterPassed, MonitorNext}
+use Rattle.monitor.specs.Monitoring.{MonitorView, monitorView, closedIn, monitorOf, monitorViewOf, LegalMonitor, verdictOn}
+use Rattle.monitor.specs.Monitoring.{judged, lost, ruled, rulingOn, judging, afterPassed, MonitorNext}
 use Rattle.monitor.specs.Margins.{noMargin, carried}
 use Rattle.monitor.specs.Answers.{verdictReply}
 use Rattle.monitor.specs.Steps.{ClosedWithin, marginAs, unjudgedAs, FoundOf, RuledOf}
 use Rattle.monitor.specs.Steps.{HoldsWhere, HeldMore, HeldAsFound, Held, markAfter}
 use Rattle.monitor.proofs.Said.{judging-bad, judging-failed, judging-legal, judging-unfailed}
 use Rattle.monitor.proofs.Said.{carried-bad, carried-failed, carried-judged}
+
+-- ---- the counts that a tick is judged with
+-- They are what a tick can have.
+each-count : (xs : List ℕ) (x : ℕ) → ((i : ℕ) → getD xs i 0 ≤ countLimit) → x ≤ countLimit → Each (λ x. x ≤ countLimit) (ticks.then xs x)
+each-count [] x h l = (l, tt)
+each-count (y ∷ xs) x h l = (h 0, each-count xs x (λ i. h (suc i)) l)
+
+pub counted-with : (us ls : List ℕ) (b : Bool) (xs : List ℕ) (x : ℕ) → ((i : ℕ) → getD xs i 0 ≤ countLimit) → x ≤ countLimit
+    → Counted (withMark us ls b) (ticks.then xs x)
+counted-with us ls false xs x h l = tt
+counted-with us ls true xs x h l = each-count xs x h l
 
 -- ---- the ruling
 -- The tags of all cases but `Passed`.
@@ -50,39 +66,96 @@ ruled-lost AlreadyFailed u m e = let z : _≡_ {A = ℕ} 0 1 = cc in absurd (ome
 ruled-lost BadState u m e = let z : _≡_ {A = ℕ} 0 1 = cc in absurd (omega arith)
 
 -- The margin tells which figures decide: where it is negative those as given, and else the closed ones, as the tick passes by the first.
-module _ (v v′ : View) (x : ℕ) (m : Margin) (t : Tightest (v .pair) (ticks.then (v .held) x) m) (r : Verdict) where
-  pub ruled-outside : m .value <ℤ pos 0 → verdictReply r ≡ result (judged (verdictOn v x))
-      → verdictReply r ≡ result (ruled (verdictOn v x) (verdictOn v′ x))
-  ruled-outside h e = e ∙ go (verdictOn v x) (verdict? (v .pair) (ticks.then (v .held) x) .1)
+module _ (p : AnyPair) (xs : List ℕ) (x : ℕ) (counts : Counted p (ticks.then xs x)) (m : Margin)
+    (t : Tightest p (ticks.then xs x) m) where
+  abbrev given : View
+  given = record { pair = p; held = xs }
+
+  -- The ruling, with the closed figures q.
+  abbrev pub Rules : Pair → Verdict → Type 0
+  Rules q r = verdictReply r ≡ result (rulingOn (monitorView given q false) x)
+
+  pub ruled-outside : (q : Pair) (r : Verdict) → m .value <ℤ pos 0 → verdictReply r ≡ result (judged (verdictOn given x)) → Rules q r
+  ruled-outside q r h e = e ∙ go (verdictOn given x) (verdict? (curvesOf p) (ticks.then xs x) .1)
     where
-      go : (u : ticks.Verdict) → ticks.Right (v .pair) (ticks.then (v .held) x) u → result (judged u) ≡ result (ruled u (verdictOn v′ x))
-      go ticks.passed k = absurd (tightest-negative (v .pair) (v .held) x m t .0 h k)
+      go : (u : ticks.Verdict) → ticks.Right (curvesOf p) (ticks.then xs x) u
+          → result (judged u) ≡ result (ruled u (verdictOn (record { pair = limited q; held = xs }) x))
+      go ticks.passed k = absurd (tightest-negative p xs x m t counts .0 h k)
       go (ticks.tooMany d) k = refl
       go (ticks.tooFew d) k = refl
 
-  module _ (h : pos 0 ≤ℤ m .value) (e : verdictReply r ≡ result (judged (verdictOn v′ x))) where
-    given-passes : (u : ticks.Verdict) → result (ruled ticks.passed u) ≡ result (ruled (verdictOn v x) u)
-    given-passes u =
-        let passes = verdict-is (v .pair) (ticks.then (v .held) x) ticks.passed (tightest-keeps (v .pair) (v .held) x m t h) in
-        ap (λ given. result (ruled given u)) (sym passes)
+  module _ (h : pos 0 ≤ℤ m .value) where
+    passes : verdictOn given x ≡ ticks.passed
+    passes = verdict-is (curvesOf p) (ticks.then xs x) ticks.passed (tightest-keeps p xs x m t counts h)
 
-    pub ruled-inside : r ≡ Passed → verdictReply r ≡ result (ruled (verdictOn v x) (verdictOn v′ x))
-    ruled-inside k = ruled-passed r (verdictOn v′ x) k e ∙ given-passes (verdictOn v′ x)
+    given-passes : (u : ticks.Verdict) → result (ruled ticks.passed u) ≡ result (ruled (verdictOn given x) u)
+    given-passes u = ap (λ v. result (ruled v u)) (sym passes)
 
-    pub ruled-lost-inside : OneOf others (tagOf the-type r) → result lost ≡ result (ruled (verdictOn v x) (verdictOn v′ x))
-    ruled-lost-inside k = ruled-lost r (verdictOn v′ x) k e ∙ given-passes (verdictOn v′ x)
+    -- Where the curves by which the pair is judged are the closed ones too, a tick that passes by the first is not lost.
+    pub ruled-alone : Rules (curvesOf p) Passed
+    ruled-alone = λ i. result (ruled (sym passes i) (sym passes i))
 
--- The held ticks with closed figures that are within the limit have the form of a state too: the sizes are those of the history.
-pub closed-legal : (h : History) (us ls : List ℕ) → Legal (viewOf h) → ClosedWithin (h .horizon) us ls
-    → Legal (viewOf (historyOf (h .horizon) us ls (h .held) (h .ticks)))
-closed-legal h us ls l b =
-    let other = historyOf (h .horizon) us ls (h .held) (h .ticks) in
-    let wide : horizon (viewOf other .pair) ≡ horizon (viewOf h .pair) = omega (arith, horizon-seen other, horizon-seen h) in
-    record {
-      lengths = (omega (arith, wide, l .lengths .0), omega (arith, wide, l .lengths .1));
-      figures = b;
-      fewer = omega (arith, wide, held-seen other, held-seen h, l .fewer);
-    }
+    module _ (q : Pair) (r : Verdict) (e : verdictReply r ≡ result (judged (verdictOn (record { pair = limited q; held = xs }) x))) where
+      pub ruled-inside : r ≡ Passed → Rules q r
+      ruled-inside k = ruled-passed r _ k e ∙ given-passes _
+
+      pub ruled-lost-inside : OneOf others (tagOf the-type r) → Rules q Lost
+      ruled-lost-inside k = ruled-lost r _ k e ∙ given-passes _
+
+-- ---- which closed figures count, by the mark
+pub closed-counts : (us ls : List ℕ) (b : Bool) (q : Pair) → b ≡ false → q ≡ closedIn (withMark us ls b) q
+closed-counts us ls b q e = rw e refl
+
+pub none-counts : (us ls : List ℕ) (b : Bool) (q : Pair) → b ≡ true → curvesOf (withMark us ls b) ≡ closedIn (withMark us ls b) q
+none-counts us ls b q e = rw e refl
+
+-- So question 12 asks no more of an unlimited state than of its history.
+module _ (us ls : List ℕ) (h : ℕ) (cus cls : List ℕ) where
+  abbrev Asked : Bool → Type 0
+  Asked b =
+      let p : AnyPair = withMark us ls b in
+      question4 (alike p (closedIn p (pairOf (entries h cus) (entries h cls)))) .asked
+
+  bounded-from : (b : Bool) → question4 (withMark us ls b) .asked → ClosedWithin h b cus cls → Asked b
+  bounded-from false g c = c
+  bounded-from true g c = g
+
+  within-from : (b : Bool) → Asked b → ClosedWithin h b cus cls
+  within-from false a = a
+  within-from true a = tt
+
+module _ (m : Monitor) where
+  pub legal-from-parts : Legal (viewOf (m .history))
+      → ClosedWithin (m .history .horizon) (m .history .unlimited) (m .«closed_upper») (m .«closed_lower»)
+      → LegalMonitor (monitorViewOf m)
+  legal-from-parts l c = record { given = l; bounded = bounded-from _ _ _ _ _ (m .history .unlimited) (l .figures) c }
+
+  pub closed-from-legal : LegalMonitor (monitorViewOf m)
+      → ClosedWithin (m .history .horizon) (m .history .unlimited) (m .«closed_upper») (m .«closed_lower»)
+  closed-from-legal l = within-from _ _ _ _ _ (m .history .unlimited) (l .bounded)
+
+-- The closed figures that count, by the slices of the arrays.
+abbrev pub closedBy : Monitor → History
+closedBy m =
+    let h : History = m .history in
+    historyOf (h .horizon) (m .«closed_upper») (m .«closed_lower») (h .unlimited) (h .held) (h .ticks)
+
+-- A history with the closed figures has the same sizes.
+pub closed-sizes : (m : Monitor) → Sizes (m .history) → Sizes (closedBy m)
+closed-sizes m z = record { within = z .within; fewer = z .fewer }
+
+pub closed-sliced : (m : Monitor) → Arrays (m .history) → Arrays (closedBy m) → Sizes (m .history)
+    → let h : History = m .history in
+    monitorViewOf m .closed
+    ≡ closedIn (withMark (take (h .horizon) (h .upper)) (take (h .horizon) (h .lower)) (h .unlimited))
+    (pairOf (take (h .horizon) (m .«closed_upper»)) (take (h .horizon) (m .«closed_lower»)))
+closed-sliced m a c z =
+    let h : History = m .history in
+    λ i. closedIn
+    (withMark (entries-take _ (h .upper) (upper-room h a z) i) (entries-take _ (h .lower) (lower-room h a z) i) (h .unlimited))
+    (pairOf
+    (entries-take _ (m .«closed_upper») (upper-room (closedBy m) c (closed-sizes m z)) i)
+    (entries-take _ (m .«closed_lower») (lower-room (closedBy m) c (closed-sizes m z)) i))
 
 -- Where no window is judged.
 unjudged-found : (w : MonitorView) (x : ℕ) (v : Verdict) (r : Finding) → r ≡ unjudgedAs v → judging w x ≡ verdictReply v
@@ -97,11 +170,11 @@ pub failed-found : (w : MonitorView) (x : ℕ) (r : Finding) → r ≡ unjudgedA
 failed-found w x r is l f = unjudged-found w x AlreadyFailed r is (judging-failed w x l f) (carried-failed w x l f)
 
 -- The slices are what the state has.
-pub ruled-found : (w : MonitorView) (x : ℕ) → LegalMonitor w → w .failed ≡ false → (r : Finding) (v v′ : View)
-    → w .view ≡ v → closedView w ≡ v′ → RuledOf v v′ x r → FoundOf w x r
-ruled-found w x l f r v v′ e e′ is =
+pub ruled-found : (w : MonitorView) (x : ℕ) → LegalMonitor w → w .failed ≡ false → (r : Finding) (v : View) (q : Pair)
+    → w .view ≡ v → w .closed ≡ q → RuledOf v q x r → FoundOf w x r
+ruled-found w x l f r v q e e′ is =
     record {
-      answer = is .answer ∙ (λ i. result (ruled (verdictOn (sym e i) x) (verdictOn (sym e′ i) x))) ∙ sym (judging-unfailed w x l f);
+      answer = is .answer ∙ (λ i. result (rulingOn (monitorView (sym e i) (sym e′ i) false) x)) ∙ sym (judging-unfailed w x l f);
       margin =
           carried-judged w x l f (marginAs (r .margin))
           (subst⁻¹ (λ (v : View). Tightest (v .pair) (ticks.then (v .held) x) (marginAs (r .margin))) e (is .margin));
@@ -112,7 +185,7 @@ ruled-found w x l f r v v′ e e′ is =
 pub holds-where : (m : Monitor) (x : ℕ) (v : Verdict) → Arrays (m .history) → verdictReply v ≡ judging (monitorViewOf m) x
     → HoldsWhere v (m .history .horizon) (m .history .ticks)
 holds-where m x Passed a e =
-    let l = judging-legal (monitorViewOf m) x (judged ticks.passed) (sym e) .given in
+    let l = legal-sizes (m .history) (judging-legal (monitorViewOf m) x (judged ticks.passed) (sym e) .given) in
     (some-window (m .history) a l, tick-for-each (m .history) a l)
 holds-where m x (TooMany d) a e = tt
 holds-where m x (TooFew d) a e = tt
@@ -138,7 +211,7 @@ held-as-found BadState h k x found m = (refl, refl)
 abbrev nextWith : Monitor → List ℕ → ℕ → Bool → Monitor
 nextWith m left n b =
     let h : History = m .history in
-    monitorOf (historyOf (h .horizon) (h .upper) (h .lower) n left) (m .«closed_upper») (m .«closed_lower») b
+    monitorOf (historyOf (h .horizon) (h .upper) (h .lower) (h .unlimited) n left) (m .«closed_upper») (m .«closed_lower») b
 
 module _ (m : Monitor) (x : ℕ) (a : Arrays (m .history)) (left : List ℕ) (n : ℕ) where
   -- The ticks are held as they were.
@@ -150,8 +223,9 @@ module _ (m : Monitor) (x : ℕ) (a : Arrays (m .history)) (left : List ℕ) (n 
       → monitorViewOf (nextWith m left n false) ≡ afterPassed (monitorViewOf m) x
   passed-next l (front, p, f) =
       let h : History = m .history in
-      let shown : viewOf (historyOf (h .horizon) (h .upper) (h .lower) n left) ≡ added (viewOf h) x =
-      ap (λ (ys : List ℕ). viewOf (historyOf (h .horizon) (h .upper) (h .lower) n ys)) f ∙ added-is h a (l .given) x front n p in
+      let shown : viewOf (historyOf (h .horizon) (h .upper) (h .lower) (h .unlimited) n left) ≡ added (viewOf h) x =
+      ap (λ (ys : List ℕ). viewOf (historyOf (h .horizon) (h .upper) (h .lower) (h .unlimited) n ys)) f
+      ∙ added-is h a (legal-sizes h (l .given)) x front n p in
       ap (λ (v : View). monitorView v (monitorViewOf m .closed) false) shown
 
   marked-next : (v : Verdict) → verdictReply v ≡ judging (monitorViewOf m) x

@@ -1,5 +1,6 @@
 -- What the operations answer, case by case, and the views of the states that they hand back. Assumes nothing.
 use Rattle.laws.proofs.Base.{ℕ, _≡_, refl, sym, ap, _∙_, subst, Bool, true, false, cond, arith, inl}
+use Rattle.curves.specs.Unlimited.{curvesOf}
 use Rattle.curves.specs.Ticks.{then, Verdict, passed, tooMany, tooFew, Right}
 use Rattle.curves.specs.Margins.{Margin, Tightest}
 use Rattle.curves.specs.Questions.{Reply, result, refusal}
@@ -68,11 +69,11 @@ ruled-given (tooMany d) u′ v e = cc
 ruled-given (tooFew d) u′ v e = cc
 
 pub ruling-right : (w : MonitorView) (x : ℕ) (v : Verdict) → w .failed ≡ false → judging w x ≡ result (judged v)
-    → Right (w .view .pair) (then (w .view .held) x) v
+    → Right (curvesOf (w .view .pair)) (then (w .view .held) x) v
 ruling-right w x v f e =
     let found = sym (judging-unfailed w x (judging-legal w x (judged v) e) f) ∙ e in
     let is = ruled-given (verdictOn (w .view) x) (verdictOn (closedView w) x) v (same-result (rulingOn w x) (judged v) found) in
-    subst (Right (w .view .pair) (then (w .view .held) x)) is (verdict? (w .view .pair) (then (w .view .held) x) .1)
+    let p = curvesOf (w .view .pair) in subst (Right p (then (w .view .held) x)) is (verdict? p (then (w .view .held) x) .1)
 
 -- ---- next states
 pub monitor-next : (m : Monitor) (x : ℕ) (r : Judgement) → MonitorTicked m x r → monitorViewOf (r .next) ≡ afterTick (monitorViewOf m) x

@@ -1,10 +1,12 @@
--- A tick of the monitor, document 01's line monitor ("Monitor and maker"), with request P2's answer 'lost'.
+-- A tick of the monitor, document 01's line monitor ("Monitor and maker"), with request P2's answer 'lost'; on pairs without ceilings, too
+-- (request P7).
 use Prim.Native.Nat.{ℕ}
 use mathlib.Core.Path.{_≡_}
 use mathlib.Core.Bool.{Bool, true, false, cond}
 use mathlib.Core.List.{List, [], _∷_}
 use mathlib.Core.Logic.{Dec·and}
 use Rattle.curves.specs.Pairs.{Pair, pairOf}
+use Rattle.curves.specs.Unlimited.{AnyPair, limited, unlimited, curvesOf, alike}
 use Rattle.curves.specs.Ticks.{then, Verdict, passed, tooMany, tooFew, Right}
 use Rattle.curves.specs.Questions.{Question, Reply, result, refusal, replyTo}
 use Rattle.curves.proofs.Verdicts.{verdict?}
@@ -23,28 +25,34 @@ pub record MonitorView : Type 0 where
 abbrev pub monitorView : View → Pair → Bool → MonitorView
 monitorView v q b = record { view = v; closed = q; failed = b }
 
+-- The closed figures that count: of a pair with ceilings those that are there. An unlimited one is not closed; the curves by which it is
+-- judged stand in their place, so that nothing is lost.
+abbrev pub closedIn : AnyPair → Pair → Pair
+closedIn (limited p) q = q
+closedIn (unlimited h ls) q = curvesOf (unlimited h ls)
+
 abbrev pub monitorViewOf : Monitor → MonitorView
 monitorViewOf m =
-    let h : ℕ = m .history .horizon in
-    monitorView (viewOf (m .history)) (pairOf (entries h (m .«closed_upper»)) (entries h (m .«closed_lower»))) (m .failed)
+    let (h, v) : ℕ × View = (m .history .horizon, viewOf (m .history)) in
+    monitorView v (closedIn (v .pair) (pairOf (entries h (m .«closed_upper»)) (entries h (m .«closed_lower»)))) (m .failed)
 
 -- Equality of states: of the views, so of the horizon and the figures up to it, given and closed, of the held ticks as a list, and of the
--- mark.
+-- marks; ceilings and closed figures count where there are ceilings.
 abbrev pub EqualMonitors : Monitor → Monitor → Type 0
 EqualMonitors m m′ = monitorViewOf m ≡ monitorViewOf m′
 
 -- The held ticks with the closed figures in place of those given.
 abbrev pub closedView : MonitorView → View
-closedView w = record { pair = w .closed; held = w .view .held }
+closedView w = record { pair = limited (w .closed); held = w .view .held }
 
--- 12. As of a history, and no closed figure is above the limit either.
+-- 12. As of a history, and no closed figure is above the limit either: without ceilings, that is no least, and so nothing more.
 pub record LegalMonitor (w : MonitorView) : Type 0 where
   pub given : Legal (w .view)
-  pub bounded : question4 (w .closed) .asked
+  pub bounded : question4 (alike (w .view .pair) (w .closed)) .asked
 
 unfoldable pub legalMonitor? : (w : MonitorView) → Dec (LegalMonitor w)
 legalMonitor? w =
-    elim (Dec·and (legal? (w .view)) (question4 (w .closed) .answered)) [
+    elim (Dec·and (legal? (w .view)) (question4 (alike (w .view .pair) (w .closed)) .answered)) [
       | yes h ↦ yes (record { given = h .0; bounded = h .1 })
       | no h ↦ no (λ l. h (l .given, l .bounded))
     ]
@@ -54,7 +62,9 @@ monitorQuestion12 w = record { number = 12; asked = LegalMonitor w; answered = l
 
 -- The verdict on a tick with the count x by the figures of a view: the one that is `Right`.
 abbrev pub verdictOn : View → ℕ → Verdict
-verdictOn v x = let found : (w : Verdict) × Right (v .pair) (then (v .held) x) w = verdict? (v .pair) (then (v .held) x) in found .0
+verdictOn v x =
+    let found : (w : Verdict) × Right (curvesOf (v .pair)) (then (v .held) x) w = verdict? (curvesOf (v .pair)) (then (v .held) x) in
+    found .0
 
 -- What a tick is answered: its verdict, that the stream is lost, or that the monitor has failed before.
 pub data Ruling : Type 0 where

@@ -1,7 +1,7 @@
 -- What the public operations promise: the answer, and the state that comes back.
 use Prim.Native.Nat.{ℕ}
 use mathlib.Core.Path.{_≡_}
-use Rattle.curves.specs.Pairs.{Pair}
+use Rattle.curves.specs.Unlimited.{AnyPair}
 use Rattle.monitor.specs.declared.Monitor.{Monitor}
 use Rattle.monitor.specs.declared.OpenedMonitor.{OpenedMonitor}
 use Rattle.monitor.specs.declared.Judgement.{Judgement}
@@ -10,7 +10,7 @@ use Rattle.monitor.specs.Margins.{carried}
 use Rattle.monitor.specs.Opening.{monitorOpening, MonitorBegun}
 use Rattle.monitor.specs.Answers.{monitorOpeningReply, verdictReply, marginIn}
 
-pub record MonitorOpened (p : Pair) (r : OpenedMonitor) : Type 0 where
+pub record MonitorOpened (p : AnyPair) (r : OpenedMonitor) : Type 0 where
   pub answer : monitorOpeningReply (r .opening) ≡ monitorOpening p
   pub state : MonitorBegun (monitorOpening p) p (r .state)
 

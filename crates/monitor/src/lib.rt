@@ -1,23 +1,21 @@
 // The monitor (document 01's line monitor): judges each tick of a stream by the windows that end there.
 
+mod start;
 mod windows;
 
 use crate::windows::Finding;
 use crate::windows::Margin;
-use closure::Closing;
 use history::History;
 use history::Legality;
 ghost use mathlib.Core.Path.{_≡_};
 ghost use Prim.Native.Nat.{_≤_};
 ghost use Rattle.laws.specs.Tests.{Tells};
-ghost use Rattle.curves.specs.Pairs.{pairOf};
+ghost use Rattle.curves.specs.Unlimited.{withMark};
 ghost use Rattle.bounds.specs.Bounds.{maxHorizon};
 ghost use Rattle.history.specs.States.{historyOf};
 ghost use Rattle.monitor.specs.Monitoring.{monitorOf, monitorViewOf};
-ghost use Rattle.monitor.specs.Opening.{zeroMonitor};
 ghost use Rattle.monitor.specs.Promises.{MonitorOpened, MonitorTicked};
-ghost use Rattle.monitor.specs.Steps.{monitorOpeningFor, begunAs, judgementOf, FoundOf, unjudgedAs, ClosedWithin, HoldsWhere};
-ghost use Rattle.monitor.specs.Steps.{Held, markAfter};
+ghost use Rattle.monitor.specs.Steps.{judgementOf, FoundOf, unjudgedAs, ClosedWithin, HoldsWhere, Held, markAfter};
 
 // The longest horizon.
 const MAX_HORIZON: usize = 256;
@@ -26,7 +24,8 @@ const MAX_HORIZON: usize = 256;
 pub struct Monitor {
     // The pair as given, and the held ticks.
     pub history: History,
-    // The closed figures, after an opening those of the closure; entry 0 for the window of one tick.
+    // The closed figures, after an opening those of the closure; entry 0 for the window of one tick. Where the pair has no ceilings they
+    // have no effect.
     pub closed_upper: [u32; MAX_HORIZON],
     pub closed_lower: [u32; MAX_HORIZON],
     pub failed: bool,
@@ -39,9 +38,9 @@ pub enum MonitorOpening {
     UpperLength,
     // 2: the lower list has another length.
     LowerLength,
-    // 4: a figure is above 16,776,960.
+    // 4: a figure is above 16,776,960; without ceilings, a least is.
     FigureLimit,
-    // 5: the pair has no closure; no unbounded stream conforms.
+    // 5: the pair has no closure; no unbounded stream conforms. Without ceilings one always does.
     NoClosure,
 }
 
@@ -62,6 +61,7 @@ pub enum Verdict {
     // A tick before this one was rejected.
     AlreadyFailed,
     // 12: the state has no legal horizon, a figure, given or closed, above 16,776,960, or as many held ticks as its horizon or more.
+    // Without ceilings only its leasts as given are asked about.
     BadState,
 }
 
@@ -76,16 +76,22 @@ pub struct Judgement {
 
 impl Monitor {
     // A monitor of the pair of `upper` and `lower`, entry 0 for the window of one tick; where the opening is refused, all of it is 0.
-    pub fn open(upper: &[u32], lower: &[u32]) -> OpenedMonitor
-        ensures { λ r. ⌜ MonitorOpened (pairOf (now (upper .entry)) (now (lower .entry))) r ⌝ }
+    // Where `unlimited` is set the pair has no ceilings: `upper` gives the horizon alone.
+    pub fn open(upper: &[u32], lower: &[u32], unlimited: bool) -> OpenedMonitor
+        ensures { λ r. ⌜ MonitorOpened (withMark (now (upper .entry)) (now (lower .entry)) unlimited) r ⌝ }
     {
         let mut closed_upper = lists::zeros();
         let mut closed_lower = lists::zeros();
-        let closing = closure::close(upper, lower, &mut closed_upper, &mut closed_lower);
-        let opening = opening_for(closing);
-        let start = History::open(upper, lower);
-        let history = start.history;
-        let state = begin(opening, history, closed_upper, closed_lower);
+        let opening = start::ask(
+            upper,
+            lower,
+            unlimited,
+            &mut closed_upper,
+            &mut closed_lower,
+        );
+        let opened = History::open(upper, lower, unlimited);
+        let history = opened.history;
+        let state = start::begin(opening, history, closed_upper, closed_lower);
         OpenedMonitor { opening, state }
     }
 
@@ -105,6 +111,7 @@ impl Monitor {
             horizon,
             &upper,
             &lower,
+            history.unlimited,
             history.held,
             &ticks,
             &closed_upper,
@@ -114,11 +121,11 @@ impl Monitor {
         );
         let verdict = finding.verdict;
         let held = hold(verdict, &mut ticks, horizon, history.held, count);
-        let failed = mark(verdict, self.failed);
         let history = History {
             horizon,
             upper,
             lower,
+            unlimited: history.unlimited,
             held,
             ticks,
         };
@@ -126,7 +133,7 @@ impl Monitor {
             history,
             closed_upper,
             closed_lower,
-            failed,
+            failed: mark(verdict, self.failed),
         };
         conclude(finding, next)
     }
@@ -146,59 +153,12 @@ fn conclude(finding: Finding, next: Monitor) -> Judgement
     }
 }
 
-// What an opening answers to what closing answered: 3 cannot come, as there is room for every horizon.
-fn opening_for(closing: Closing) -> MonitorOpening
-    ensures { λ r. ⌜ r ≡ monitorOpeningFor closing ⌝ }
-{
-    match closing {
-        Closing::Closed { rounds: _ } => MonitorOpening::Opened,
-        Closing::UpperLength => MonitorOpening::UpperLength,
-        Closing::LowerLength => MonitorOpening::LowerLength,
-        Closing::FigureLimit => MonitorOpening::FigureLimit,
-        _ => MonitorOpening::NoClosure,
-    }
-}
-
-// The monitor that an opening hands out.
-fn begin(
-    opening: MonitorOpening,
-    history: History,
-    closed_upper: [u32; MAX_HORIZON],
-    closed_lower: [u32; MAX_HORIZON],
-) -> Monitor
-    ensures { λ r. ⌜ r ≡ begunAs opening history «closed_upper» «closed_lower» ⌝ }
-{
-    match opening {
-        MonitorOpening::Opened => Monitor {
-            history,
-            closed_upper,
-            closed_lower,
-            failed: false,
-        },
-        _ => zero(),
-    }
-}
-
-// The monitor that a refused opening hands out. It fails question 12.
-fn zero() -> Monitor
-    ensures { λ r. ⌜ r ≡ zeroMonitor ⌝ }
-{
-    let history = History::zero();
-    let closed_upper = lists::zeros();
-    let closed_lower = lists::zeros();
-    Monitor {
-        history,
-        closed_upper,
-        closed_lower,
-        failed: false,
-    }
-}
-
 // The verdict on the next tick, and its margin. Question 12, of the closed figures too, comes before the failed mark.
 fn examine_tick(
     horizon: usize,
     upper: &[u32; MAX_HORIZON],
     lower: &[u32; MAX_HORIZON],
+    unlimited: bool,
     held: usize,
     ticks: &[u32; MAX_HORIZON],
     closed_upper: &[u32; MAX_HORIZON],
@@ -206,13 +166,13 @@ fn examine_tick(
     failed: bool,
     count: u32,
 ) -> Finding
-    ensures { λ r. ⌜ FoundOf (monitorViewOf (monitorOf (historyOf horizon (now (upper .entry)) (now (lower .entry)) held
-        (now (ticks .entry))) (now («closed_upper» .entry)) (now («closed_lower» .entry)) failed)) count r ⌝ }
+    ensures { λ r. ⌜ FoundOf (monitorViewOf (monitorOf (historyOf horizon (now (upper .entry)) (now (lower .entry)) unlimited
+        held (now (ticks .entry))) (now («closed_upper» .entry)) (now («closed_lower» .entry)) failed)) count r ⌝ }
 {
-    let Legality::Legal = history::ask_legality(horizon, upper, lower, held) else {
+    let Legality::Legal = history::ask_legality(horizon, upper, lower, unlimited, held) else {
         return unjudged(Verdict::BadState);
     };
-    if !closed_within(horizon, closed_upper, closed_lower) {
+    if !closed_within(horizon, unlimited, closed_upper, closed_lower) {
         return unjudged(Verdict::BadState);
     }
     if failed {
@@ -226,6 +186,7 @@ fn examine_tick(
     windows::rule(
         &upper_figures[..horizon],
         &lower_figures[..horizon],
+        unlimited,
         &closed_upper_figures[..horizon],
         &closed_lower_figures[..horizon],
         &counts[..held],
@@ -244,15 +205,19 @@ fn unjudged(verdict: Verdict) -> Finding
     Finding { verdict, margin }
 }
 
-// Whether no closed figure up to the horizon is above the limit.
+// Whether no closed figure up to the horizon is above the limit; without ceilings there is none.
 fn closed_within(
     horizon: usize,
+    unlimited: bool,
     closed_upper: &[u32; MAX_HORIZON],
     closed_lower: &[u32; MAX_HORIZON],
 ) -> bool
     requires { ⌜ horizon ≤ maxHorizon ⌝ }
-    ensures { λ r. ⌜ Tells r (ClosedWithin horizon (now («closed_upper» .entry)) (now («closed_lower» .entry))) ⌝ }
+    ensures { λ r. ⌜ Tells r (ClosedWithin horizon unlimited (now («closed_upper» .entry)) (now («closed_lower» .entry))) ⌝ }
 {
+    if unlimited {
+        return true;
+    }
     let upper: &[u32] = closed_upper;
     let lower: &[u32] = closed_lower;
     bounds::within_limit(&upper[..horizon]) & bounds::within_limit(&lower[..horizon])

@@ -2,7 +2,7 @@
 -- Assumes nothing.
 use Rattle.laws.proofs.Base.{ℕ, _≡_, refl, sym, ap, _∙_, Bool, true, false, List, _≤_, arith}
 use Rattle.curves.specs.Ticks.{then, Judged, Verdict, tooMany, tooFew, Right}
-use Rattle.curves.specs.Pairs.{Pair}
+use Rattle.curves.specs.Unlimited.{AnyPair, curvesOf}
 use Rattle.curves.specs.Questions.{Question, AllYes, Reply, result, refusal, replyTo}
 use Rattle.curves.proofs.Asked.{Positive, positive, refusal-iff}
 use Rattle.bounds.specs.Bounds.{maxHorizon}
@@ -22,11 +22,11 @@ use Rattle.scripts.specs.Steps.{NamesWindow}
 numbered : (qs : List Question) (y : AllYes qs → Unit {0}) → Positive qs → ¬ (replyTo qs y ≡ refusal 0)
 numbered qs y h e = omega (arith, positive qs h 0 (refusal-iff qs y 0 .0 e))
 
-pub generator-opening-numbered : (p : Pair) → ¬ (generatorOpening p ≡ refusal 0)
+pub generator-opening-numbered : (p : AnyPair) → ¬ (generatorOpening p ≡ refusal 0)
 unfolding generatorOpening
 generator-opening-numbered p = numbered (generatorQuestions p) _ (omega arith, (omega arith, (omega arith, (omega arith, tt))))
 
-pub monitor-opening-numbered : (p : Pair) → ¬ (monitorOpening p ≡ refusal 0)
+pub monitor-opening-numbered : (p : AnyPair) → ¬ (monitorOpening p ≡ refusal 0)
 unfolding monitorOpening
 monitor-opening-numbered p = numbered (monitorQuestions p) _ (omega arith, (omega arith, (omega arith, (omega arith, tt))))
 
@@ -46,7 +46,7 @@ module _ (r : ℕ) where
 -- ---- verdicts
 -- A verdict that was found is that of a legal state that had not failed, and it is right: a window that it judges is within the horizon.
 judged-within : (w : MonitorView) (x : ℕ) (u : Verdict) (d : ℕ)
-    → (Right (w .view .pair) (then (w .view .held) x) u → Judged (w .view .pair) (then (w .view .held) x) d)
+    → (Right (curvesOf (w .view .pair)) (then (w .view .held) x) u → Judged (curvesOf (w .view .pair)) (then (w .view .held) x) d)
     → judging w x ≡ result (judged u) → d ≤ maxHorizon
 judged-within w x u d names e = go (w .failed) refl
   where

@@ -1,7 +1,7 @@
 -- What running a script gives back: the opening's number, and the entries as the calls leave them.
 use Prim.Native.Nat.{ℕ}
 use mathlib.Core.List.{List, map}
-use Rattle.curves.specs.Pairs.{Pair}
+use Rattle.curves.specs.Unlimited.{AnyPair}
 use Rattle.curves.specs.Questions.{Reply, result, refusal}
 use Rattle.history.specs.Opening.{fresh}
 use Rattle.monitor.specs.Opening.{monitorOpening, freshMonitor}
@@ -22,8 +22,8 @@ abbrev pub afterOpening : Reply (Unit {0}) → List ℕ → List ℕ → ScriptA
 afterOpening (result _) answers found = scriptAnswer 0 answers
 afterOpening (refusal n) answers found = scriptAnswer n found
 
-abbrev pub judgedScript : Pair → List ℕ → ScriptAnswer
+abbrev pub judgedScript : AnyPair → List ℕ → ScriptAnswer
 judgedScript p counts = afterOpening (monitorOpening p) (map rulingCode (rulings (freshMonitor p) counts)) counts
 
-abbrev pub sentScript : Pair → List ℕ → ScriptAnswer
+abbrev pub sentScript : AnyPair → List ℕ → ScriptAnswer
 sentScript p choices = afterOpening (generatorOpening p) (map sendingCode (sendings (fresh p) choices)) choices

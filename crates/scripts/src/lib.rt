@@ -8,7 +8,7 @@ use monitor::MonitorOpening;
 use monitor::Verdict;
 ghost use mathlib.Core.Path.{_≡_};
 ghost use mathlib.Core.List.{map};
-ghost use Rattle.curves.specs.Pairs.{pairOf};
+ghost use Rattle.curves.specs.Unlimited.{withMark};
 ghost use Rattle.history.specs.States.{viewOf};
 ghost use Rattle.monitor.specs.Monitoring.{monitorViewOf};
 ghost use Rattle.monitor.specs.Answers.{monitorOpeningReply, verdictReply};
@@ -33,12 +33,13 @@ const LOST: u32 = 4_000;
 // And a refusal, with its number added.
 const REFUSED: u32 = 4_000_000_000;
 
-// A monitor, opened and given the counts of the script. Each is overwritten with its verdict.
-pub fn judge_script(upper: &[u32], lower: &[u32], script: &mut [u32]) -> u32
+// A monitor, opened and given the counts of the script. Each is overwritten with its verdict. Where `unlimited` is set the pair has no
+// ceilings: `upper` gives the horizon alone.
+pub fn judge_script(upper: &[u32], lower: &[u32], unlimited: bool, script: &mut [u32]) -> u32
     ensures { λ r. ⌜ scriptAnswer r (now (script .exit))
-        ≡ judgedScript (pairOf (now (upper .entry)) (now (lower .entry))) (now (script .entry)) ⌝ }
+        ≡ judgedScript (withMark (now (upper .entry)) (now (lower .entry)) unlimited) (now (script .entry)) ⌝ }
 {
-    let opened = Monitor::open(upper, lower);
+    let opened = Monitor::open(upper, lower, unlimited);
     let opening = opened.opening;
     let state = opened.state;
     let number = monitor_opening_number(opening);
@@ -91,12 +92,12 @@ fn monitor_opening_number(opening: MonitorOpening) -> u32
     }
 }
 
-// A generator, opened and given the choices of the script. Each is overwritten with the count that is sent.
-pub fn generate_script(upper: &[u32], lower: &[u32], script: &mut [u32]) -> u32
+// A generator, opened and given the choices of the script. Each is overwritten with the count that is sent. The mark is as above.
+pub fn generate_script(upper: &[u32], lower: &[u32], unlimited: bool, script: &mut [u32]) -> u32
     ensures { λ r. ⌜ scriptAnswer r (now (script .exit))
-        ≡ sentScript (pairOf (now (upper .entry)) (now (lower .entry))) (now (script .entry)) ⌝ }
+        ≡ sentScript (withMark (now (upper .entry)) (now (lower .entry)) unlimited) (now (script .entry)) ⌝ }
 {
-    let opened = Generator::open(upper, lower);
+    let opened = Generator::open(upper, lower, unlimited);
     let opening = opened.opening;
     let state = opened.state;
     let number = generator_opening_number(opening);

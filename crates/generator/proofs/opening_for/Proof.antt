@@ -13,7 +13,8 @@ abbrev For : Closing → Type 0
 For closing = NotClosed ≡ generatorOpeningFor closing
 
 returns-2 : tie.Need-returns-2
-returns-2 c = subst⁻¹ For (c .before .before .closing .given .1) (some-round _ (c .if1 .left))
+returns-2 c =
+    let told = c .before .before .closing .given in subst⁻¹ For (told .1) (some-round _ (told .0 .1 .0) (c .if1 .left))
 
 pub opening-for-spec : {M : Type 1} → statement M
 opening-for-spec =

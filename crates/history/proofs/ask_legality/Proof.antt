@@ -1,9 +1,8 @@
 -- `history::ask_legality` meets its promise: each way out answers question 12 by the sizes or by the figures.
 -- Assumes nothing.
-use Rattle.laws.proofs.Base.{ℕ, _≤_, _≡_, sym, Bool, _&&_, List, arith, needs, length, take, length-take-le}
-use Rattle.laws.specs.Tests.{Tells}
-use Rattle.laws.proofs.Tests.{told-yes, told-no, both-told}
-use Rattle.bounds.specs.Bounds.{maxHorizon, Bounded}
+use Rattle.laws.proofs.Base.{ℕ, _≤_, _≡_, sym, List, arith, needs, length, length-take-le}
+use Rattle.laws.proofs.Tests.{told-yes, told-no}
+use Rattle.bounds.specs.Bounds.{maxHorizon}
 use Rattle.history.specs.declared.History.{History}
 use Rattle.history.specs.States.{historyOf}
 use Rattle.history.proofs.Histories.{Sizes, legal-sizes, legal-bounded, bounded-legal}
@@ -13,7 +12,7 @@ use Rattle.history.proofs.ask_legality.Tie as tie
 
 -- A history with these numbers and figures.
 abbrev with : tie.Start → List ℕ → History
-with s xs = historyOf (s .args .horizon) (s .args .upper .now) (s .args .lower .now) (s .args .held) xs
+with s xs = historyOf (s .args .horizon) (s .args .upper .now) (s .args .lower .now) (s .args .unlimited) (s .args .held) xs
 
 -- Where both arrays are slices and fewer ticks are held than a horizon of at most 256: there is a figure for each window up to it.
 abbrev start : tie.After-lower-figures → tie.Start
@@ -28,21 +27,9 @@ uppers e = let l : length (start e .args .upper .now) ≡ maxHorizon = e .before
 lowers : (e : tie.After-lower-figures) → start e .args .horizon ≤ length (start e .args .lower .now)
 lowers e = let l : length (start e .args .lower .now) ≡ maxHorizon = e .lower-figures .given .0 in omega arith
 
--- From where both curves have been asked about.
-abbrev sized : tie.After-within-limit2 → tie.After-lower-figures
-sized k = k .before .before .before .before
-
-abbrev answer : tie.After-within-limit2 → Bool
-answer k = k .before .before .within-limit .result && k .within-limit2 .result
-
-figures : (k : tie.After-within-limit2)
-    → let args = start (sized k) .args in
-    Tells (answer k) (Bounded (take (args .horizon) (args .upper .now)) × Bounded (take (args .horizon) (args .lower .now)))
-figures k =
-    let args = start (sized k) .args in
-    both-told (Bounded (take (args .horizon) (args .upper .now))) (Bounded (take (args .horizon) (args .lower .now)))
-    (k .before .before .within-limit .result) (k .within-limit2 .result) (k .before .before .within-limit .ensures)
-    (k .within-limit2 .ensures)
+-- From where the figures have been asked about.
+abbrev sized : tie.After-all-within → tie.After-lower-figures
+sized k = k .before .before .before
 
 returns : tie.Need-returns
 returns c = record { answer = λ xs. legality-no _ (λ l. omega (arith, legal-sizes (with (c .before) xs) l .within, c .if1 .taken)) }
@@ -54,21 +41,22 @@ returns-2 c =
 returns-3 : tie.Need-returns-3
 returns-3 c =
     let e = sized (c .before) in
+    let found = c .before .all-within in
     record {
       answer =
           λ xs. legality-no _ (λ l.
-          told-no _ (answer (c .before)) (c .if3 .taken) (figures (c .before))
-          (legal-bounded (with (start e) xs) (uppers e) (lowers e) l));
+          told-no _ (found .result) (c .if3 .taken) (found .ensures) (legal-bounded (with (start e) xs) (uppers e) (lowers e) l));
     }
 
 returns-4 : tie.Need-returns-4
 returns-4 c =
     let e = sized (c .before) in
+    let found = c .before .all-within in
     record {
       answer =
           λ xs. legality-yes _
           (bounded-legal (with (start e) xs) (uppers e) (lowers e) (sizes e xs)
-          (told-yes _ (answer (c .before)) (c .if3 .left) (figures (c .before))));
+          (told-yes _ (found .result) (c .if3 .left) (found .ensures)));
     }
 
 pub ask-legality-spec : {M : Type 1} → statement M
@@ -78,8 +66,7 @@ ask-legality-spec =
     returns
     returns-2
     (λ c. sym (length-take-le _ _ (uppers (c .before))))
-    (λ c κs. search needs)
-    (λ c. sym (length-take-le _ _ (lowers (c .before .before .before))))
+    (λ c. sym (length-take-le _ _ (lowers (c .before .before))))
     (λ c κs. search needs)
     returns-3
     returns-4)

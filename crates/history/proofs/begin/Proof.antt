@@ -1,13 +1,13 @@
 -- `history::begin` meets its contract: in the first arm the opening is not refused, in the other it is.
 -- Assumes nothing.
 use borrow.Author.Needs.{needs}
-use Rattle.curves.specs.Pairs.{Pair, pairOf}
+use Rattle.curves.specs.Unlimited.{AnyPair, withMark}
 use Rattle.history.proofs.Histories.{opened-yes, begun-fresh, begun-zero}
 use Rattle.history.proofs.begin.Statement.{statement}
 use Rattle.history.proofs.begin.Tie as tie
 
-abbrev for : tie.Start → Pair
-for s = pairOf (s .args .upper .now) (s .args .lower .now)
+abbrev for : tie.Start → AnyPair
+for s = withMark (s .args .upper .now) (s .args .lower .now) (s .args .unlimited)
 
 returns : tie.Need-returns
 returns c =

@@ -1,7 +1,7 @@
 -- `scripts::generate_script` meets its promise: where the generator opens, its ticks are those of the script.
 -- Assumes nothing.
 use Rattle.laws.proofs.Base.{refl, ap, _∙_, subst, map, needs}
-use Rattle.curves.specs.Pairs.{pairOf}
+use Rattle.curves.specs.Unlimited.{withMark}
 use Rattle.history.specs.States.{viewOf}
 use Rattle.history.specs.Opening.{fresh, Begun}
 use Rattle.generator.specs.Opening.{generatorOpening}
@@ -17,7 +17,7 @@ returns c =
     let number = ran .before .before .before .generator-opening-number in
     let told = ran .before .before .before .before .before .«open» in
     let args = ran .before .before .before .before .before .before .before .before .before .args in
-    let p = pairOf (args .upper .now) (args .lower .now) in
+    let p = withMark (args .upper .now) (args .lower .now) (args .unlimited) in
     let history = told .result .state .history in
     run-opened _ _ (generator-opening-numbered p)
     (number .ensures ∙ ap replyNumber (told .ensures .answer)) (ran .before .before .if1 .taken)
@@ -29,7 +29,7 @@ returns-2 c =
     let number = c .before .generator-opening-number in
     let told = c .before .before .before .«open» in
     let args = c .before .before .before .before .before .before .before .args in
-    let p = pairOf (args .upper .now) (args .lower .now) in
+    let p = withMark (args .upper .now) (args .lower .now) (args .unlimited) in
     run-refused _ (generatorOpening p) (number .ensures ∙ ap replyNumber (told .ensures .answer)) (c .if1 .left)
     (map sendingCode (sendings (fresh p) (args .script .now))) _ _ refl
 

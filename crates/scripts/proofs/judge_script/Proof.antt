@@ -1,7 +1,7 @@
 -- `scripts::judge_script` meets its promise: where the monitor opens, its ticks are those of the script.
 -- Assumes nothing.
 use Rattle.laws.proofs.Base.{refl, ap, _∙_, subst, map, needs}
-use Rattle.curves.specs.Pairs.{pairOf}
+use Rattle.curves.specs.Unlimited.{withMark}
 use Rattle.monitor.specs.Monitoring.{monitorViewOf}
 use Rattle.monitor.specs.Opening.{monitorOpening, freshMonitor, MonitorBegun}
 use Rattle.monitor.specs.Calls.{rulings}
@@ -16,7 +16,7 @@ returns c =
     let number = ran .before .before .before .monitor-opening-number in
     let told = ran .before .before .before .before .before .«open» in
     let args = ran .before .before .before .before .before .before .before .before .before .args in
-    let p = pairOf (args .upper .now) (args .lower .now) in
+    let p = withMark (args .upper .now) (args .lower .now) (args .unlimited) in
     run-opened _ _ (monitor-opening-numbered p)
     (number .ensures ∙ ap replyNumber (told .ensures .answer)) (ran .before .before .if1 .taken)
     (monitorViewOf (told .result .state)) (freshMonitor p)
@@ -28,7 +28,7 @@ returns-2 c =
     let number = c .before .monitor-opening-number in
     let told = c .before .before .before .«open» in
     let args = c .before .before .before .before .before .before .before .args in
-    let p = pairOf (args .upper .now) (args .lower .now) in
+    let p = withMark (args .upper .now) (args .lower .now) (args .unlimited) in
     run-refused _ (monitorOpening p) (number .ensures ∙ ap replyNumber (told .ensures .answer)) (c .if1 .left)
     (map rulingCode (rulings (freshMonitor p) (args .script .now))) _ _ refl
 

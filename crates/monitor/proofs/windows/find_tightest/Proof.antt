@@ -6,7 +6,7 @@ use mir.Syntax.{w64}
 use mir.Val.{toZ, SFits}
 use Rattle.laws.proofs.Signed.{result-read, less-told, not-less-told}
 use Rattle.curves.specs.Streams.{countLimit}
-use Rattle.curves.specs.Pairs.{pairOf}
+use Rattle.curves.specs.Unlimited.{withMark}
 use Rattle.curves.specs.Ticks.{then}
 use Rattle.curves.proofs.Margins.{TightestTo}
 use Rattle.monitor.proofs.Judging.{SummedTo, summed-none, summed-more, tightest-first, tightest-here, tightest-stays, tightest-ends}
@@ -14,12 +14,12 @@ use Rattle.monitor.proofs.windows.find_tightest.Statement.{statement}
 use Rattle.monitor.proofs.windows.find_tightest.Tie as tie
 
 abbrev Inv-loop : tie.InvT-loop
-Inv-loop upper lower ticks count held sum₀ value₀ window₀ d₀ sum value window d =
-    (sum ≤ (d + 1) * countLimit) × SummedTo upper lower ticks count sum d
-    × TightestTo (pairOf upper lower) (then ticks count) (d + 1) (record { value = toZ w64 value; window = window })
+Inv-loop upper lower unlimited ticks count held sum₀ value₀ window₀ d₀ sum value window d =
+    (sum ≤ (d + 1) * countLimit) × SummedTo upper lower unlimited ticks count sum d
+    × TightestTo (withMark upper lower unlimited) (then ticks count) (d + 1) (record { value = toZ w64 value; window = window })
 
 abbrev μ-loop : tie.MeasureT-loop
-μ-loop upper lower ticks count held sum₀ value₀ window₀ d₀ sum value window d = length ticks - d
+μ-loop upper lower unlimited ticks count held sum₀ value₀ window₀ d₀ sum value window d = length ticks - d
 
 -- The function's start, seen from a turn's beginning; and that, seen from where a tick is added.
 abbrev start : tie.At-loop Inv-loop μ-loop → tie.Start Inv-loop μ-loop
@@ -37,24 +37,26 @@ added c = omega (arith, c .shared-slice-known6 .given (length (start (head c) .a
 abbrev TightestSoFar : tie.Start Inv-loop μ-loop → ℕ → ℕ → ℤ → Type 0
 TightestSoFar s n w z =
     let a = s .args in
-    TightestTo (pairOf (a .upper .now) (a .lower .now)) (then (a .ticks .now) (a .count)) n (record { value = z; window = w })
+    TightestTo (withMark (a .upper .now) (a .lower .now) (a .unlimited)) (then (a .ticks .now) (a .count)) n
+    (record { value = z; window = w })
 
 loop-holds : tie.Need-loop-holds Inv-loop μ-loop
 loop-holds c =
     let first = c .margin-between in
-    let s = c .before .before .before .before .before .before in (
+    let s = c .before .before .before .before .before .before in
+    let a = s .args in (
       search needs,
-      summed-none _ _ _ _,
+      summed-none _ _ _ _ _,
       subst (TightestSoFar s 1 1) (sym (result-read (first .result) _ (record { sfits = first .ok }) (first .ensures)))
-          (tightest-first _ _ _ _ (s .pre)),
+          (tightest-first (a .upper .now) (a .lower .now) (a .unlimited) (a .ticks .now) (a .count) (s .pre)),
     )
 
 -- The sum of the next window, and its bound.
 next-sum : (c : tie.After-shared-slice-known6 Inv-loop μ-loop) → let t = head c in
     let a = start t .args in
-    SummedTo (a .upper .now) (a .lower .now) (a .ticks .now) (a .count)
+    SummedTo (a .upper .now) (a .lower .now) (a .unlimited) (a .ticks .now) (a .count)
     (t .loop .sum + getD (a .ticks .now) (length (a .ticks .now) - 1 - t .loop .d) 0) (t .loop .d + 1)
-next-sum c = summed-more _ _ _ _ _ _ (head c .loop .inv .1) (c .before .loop-test .taken)
+next-sum c = summed-more _ _ _ _ _ _ _ (head c .loop .inv .1) (c .before .loop-test .taken)
 
 loop-again : tie.Need-loop-again Inv-loop μ-loop
 loop-again c =
@@ -65,7 +67,7 @@ loop-again c =
       omega (arith, added k),
       next-sum k,
       subst (TightestSoFar (start t) (t .loop .d + 1 + 1) (t .loop .d + 1 + 1)) (sym (result-read (found .result) _ fits (found .ensures)))
-          (tightest-here _ _ _ _ (start t .pre) _ _ (next-sum k) _ (t .loop .inv .2)
+          (tightest-here _ _ _ _ _ (start t .pre) _ _ (next-sum k) _ (t .loop .inv .2)
           (less-told (found .result) _ fits (found .ensures) _ (c .if1 .taken))),
     )
 
@@ -75,14 +77,14 @@ loop-again-2 c =
     let k = c .before .before .before .before in (
       omega (arith, added k),
       next-sum k,
-      tightest-stays _ _ _ _ (start (head k) .pre) _ _ (next-sum k) _ (head k .loop .inv .2)
+      tightest-stays _ _ _ _ _ (start (head k) .pre) _ _ (next-sum k) _ (head k .loop .inv .2)
           (not-less-told (found .result) _ (record { sfits = found .ok }) (found .ensures) _ (c .if1 .left)),
     )
 
 returns : tie.Need-returns Inv-loop μ-loop
 returns c =
     let t = c .before in
-    tightest-ends _ _ _ _ (start t .pre) _ _ (t .loop .inv .1) _ (c .loop-test .left) (t .loop .inv .2)
+    tightest-ends _ _ _ _ _ (start t .pre) _ _ (t .loop .inv .1) _ (c .loop-test .left) (t .loop .inv .2)
 
 pub find-tightest-spec : {M : Type 1} → statement M
 find-tightest-spec =

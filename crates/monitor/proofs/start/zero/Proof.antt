@@ -1,9 +1,9 @@
--- `monitor::zero` meets its contract: a history of zeros, and two arrays of them.
+-- `monitor::start::zero` meets its contract: a history of zeros, and two arrays of them.
 -- Assumes nothing.
 use borrow.Author.Needs.{needs}
 use Rattle.monitor.proofs.Opening.{zero-is}
-use Rattle.monitor.proofs.zero.Statement.{statement}
-use Rattle.monitor.proofs.zero.Tie as tie
+use Rattle.monitor.proofs.start.zero.Statement.{statement}
+use Rattle.monitor.proofs.start.zero.Tie as tie
 
 returns : tie.Need-returns
 returns c = zero-is _ _ _ (c .before .before .zero .ensures) (c .before .zeros .ensures) (c .zeros2 .ensures)

@@ -1,9 +1,9 @@
--- `monitor::begin` meets its contract: in the first arm the opening is not refused, in the other it is.
+-- `monitor::start::begin` meets its contract: in the first arm the opening is not refused, in the other it is.
 -- Assumes nothing.
 use Rattle.laws.proofs.Base.{_∙_, needs}
 use Rattle.monitor.proofs.Opening.{begun-opened, begun-zero}
-use Rattle.monitor.proofs.begin.Statement.{statement}
-use Rattle.monitor.proofs.begin.Tie as tie
+use Rattle.monitor.proofs.start.begin.Statement.{statement}
+use Rattle.monitor.proofs.start.begin.Tie as tie
 
 pub begin-spec : {M : Type 1} → statement M
 begin-spec =
