@@ -8,6 +8,7 @@ pub mod Lost
 pub mod Opens
 pub mod NeverRefused
 pub mod Margins
+pub mod Unlimited
 pub mod Cost
 pub mod Marked
 pub mod ReadBack

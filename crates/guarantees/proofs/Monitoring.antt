@@ -6,12 +6,13 @@ use mathlib.Core.Logic.{Iff·rfl, Iff·trans, Iff·and, Iff·not}
 use Rattle.laws.specs.Tests.{Each}
 use Rattle.laws.proofs.Tests.{each-map}
 use Rattle.curves.specs.Pairs.{Pair, horizon}
+use Rattle.curves.specs.Unlimited.{AnyPair, curvesOf, alike}
 use Rattle.curves.specs.Conformance.{Conforms}
 use Rattle.curves.specs.Ticks.{then, newest, Keeps, passed, tooMany, tooFew}
 use Rattle.curves.specs.Questions.{AllYes, Reply, result}
 use Rattle.curves.proofs.NextTick.{conforms-start, conforms-keeps, keeps-conforms}
 use Rattle.curves.proofs.Verdicts.{keeps-newest, right-newest}
-use Rattle.bounds.specs.Bounds.{pairQuestions}
+use Rattle.bounds.specs.Bounds.{question4, pairQuestions}
 use Rattle.bounds.proofs.Said.{asking-yes}
 use Rattle.history.specs.States.{View}
 use Rattle.history.specs.Opening.{fresh}
@@ -44,7 +45,11 @@ failed-not-lost : (r : Reply Ruling) → r ≡ result alreadyFailed → NotLost 
 failed-not-lost r f e = let z : _≡_ {A = ℕ} 0 1 = cc in omega arith
 
 -- ---- a monitor of the pair p with the closed figures q, of one horizon
-module _ (p q : Pair) (ys : AllYes (pairQuestions p)) (ys′ : AllYes (pairQuestions q)) (same : horizon q ≡ horizon p) where
+module _ (p : AnyPair) (q : Pair) (ys : AllYes (pairQuestions p)) (bound : question4 (alike p q) .asked)
+    (same : horizon q ≡ horizon (curvesOf p)) where
+  abbrev c : Pair
+  c = curvesOf p
+
   -- After the stream xs, none of it rejected.
   abbrev pub after : List ℕ → MonitorView
   after xs = monitorView (heldOf p xs) q false
@@ -53,26 +58,26 @@ module _ (p q : Pair) (ys : AllYes (pairQuestions p)) (ys′ : AllYes (pairQuest
   start = ap (λ (v : View). monitorView v q false) (held-fresh p)
 
   pub legal : (xs : List ℕ) → LegalMonitor (after xs)
-  legal xs = record { given = held-legal p (sym (asking-yes p ys)) xs; bounded = ys′ .1 .1 .0 }
+  legal xs = record { given = held-legal p (sym (asking-yes p ys)) xs; bounded = bound }
 
   -- The last ticks are as good as the whole stream.
-  pub keeps-whole : (xs : List ℕ) (x : ℕ) → Keeps p (then (newest (horizon p - 1) xs) x) ↔ Keeps p (then xs x)
-  keeps-whole xs x = keeps-newest p (horizon p - 1) xs (omega arith) x
+  pub keeps-whole : (xs : List ℕ) (x : ℕ) → Keeps c (then (newest (horizon c - 1) xs) x) ↔ Keeps c (then xs x)
+  keeps-whole xs x = keeps-newest c (horizon c - 1) xs (omega arith) x
 
-  keeps-closed : (xs : List ℕ) (x : ℕ) → Keeps q (then (newest (horizon p - 1) xs) x) ↔ Keeps q (then xs x)
-  keeps-closed xs x = keeps-newest q (horizon p - 1) xs (omega (arith, same)) x
+  keeps-closed : (xs : List ℕ) (x : ℕ) → Keeps q (then (newest (horizon c - 1) xs) x) ↔ Keeps q (then xs x)
+  keeps-closed xs x = keeps-newest q (horizon c - 1) xs (omega (arith, same)) x
 
   right-of-newest : (xs : List ℕ) (x : ℕ) (r : Ruling)
-      → RightRuling p q (then (newest (horizon p - 1) xs) x) r ↔ RightRuling p q (then xs x) r
+      → RightRuling c q (then (newest (horizon c - 1) xs) x) r ↔ RightRuling c q (then xs x) r
   right-of-newest xs x (judged passed) = Iff·and (keeps-whole xs x) (keeps-closed xs x)
-  right-of-newest xs x (judged (tooMany d)) = right-newest p (horizon p - 1) xs (omega arith) x (tooMany d)
-  right-of-newest xs x (judged (tooFew d)) = right-newest p (horizon p - 1) xs (omega arith) x (tooFew d)
+  right-of-newest xs x (judged (tooMany d)) = right-newest c (horizon c - 1) xs (omega arith) x (tooMany d)
+  right-of-newest xs x (judged (tooFew d)) = right-newest c (horizon c - 1) xs (omega arith) x (tooFew d)
   right-of-newest xs x lost = Iff·and (keeps-whole xs x) (Iff·not (keeps-closed xs x))
   right-of-newest xs x alreadyFailed = Iff·rfl
 
   -- Its next tick.
   module _ (w : MonitorView) (xs : List ℕ) (s : w ≡ after xs) (x : ℕ) where
-    pub right-of-all : (r : Ruling) → Answers w x r ↔ RightRuling p q (then xs x) r
+    pub right-of-all : (r : Ruling) → Answers w x r ↔ RightRuling c q (then xs x) r
     right-of-all r =
         rw s (Iff·trans (ruling-iff (after xs) x (record { legal = legal xs; mark = refl }) r) (right-of-newest xs x r))
 
@@ -98,14 +103,14 @@ module _ (p q : Pair) (ys : AllYes (pairQuestions p)) (ys′ : AllYes (pairQuest
 
   -- The stream conforms to both pairs.
   abbrev pub ConformsBoth : List ℕ → Type 0
-  ConformsBoth xs = Conforms p xs × Conforms q xs
+  ConformsBoth xs = Conforms c xs × Conforms q xs
 
   -- From the stream ys on: while every tick passes, the stream conforms, and the monitor holds the stream's last ticks.
   pub pass-iff : (w : MonitorView) (ys xs : List ℕ) → w ≡ after ys → ConformsBoth ys
       → ConformsBoth (ys ++ xs) ↔ Each IsPassed (rulings w xs)
   unfolding rulings
-  pass-iff w ys [] s c = (λ _. tt, λ _. rw append-nil c)
-  pass-iff w ys (x ∷ xs) s c =
+  pass-iff w ys [] s k = (λ _. tt, λ _. rw append-nil k)
+  pass-iff w ys (x ∷ xs) s k₀ =
       let right = right-of-all w ys s x (judged passed) in
       let on
       : ConformsBoth (then ys x) → IsPassed (judging w x)
@@ -113,12 +118,12 @@ module _ (p q : Pair) (ys : AllYes (pairQuestions p)) (ys′ : AllYes (pairQuest
       λ c′ e. pass-iff (afterTick w x) (then ys x) xs (tick-on w ys s x e) c′ in
       rw (← append-assoc ys (x ∷ []) xs) (
         λ all.
-            let c′ : ConformsBoth (then ys x) = (conforms-start p (then ys x) xs (all .0), conforms-start q (then ys x) xs (all .1)) in
-            let e = right .1 (conforms-keeps p (then ys x) (c′ .0), conforms-keeps q (then ys x) (c′ .1)) in
+            let c′ : ConformsBoth (then ys x) = (conforms-start c (then ys x) xs (all .0), conforms-start q (then ys x) xs (all .1)) in
+            let e = right .1 (conforms-keeps c (then ys x) (c′ .0), conforms-keeps q (then ys x) (c′ .1)) in
             (e, on c′ e .0 all),
         λ es.
             let k = right .0 (es .0) in
-            on (keeps-conforms p ys x (c .0) (k .0), keeps-conforms q ys x (c .1) (k .1)) (es .0) .1 (es .1),
+            on (keeps-conforms c ys x (k₀ .0) (k .0), keeps-conforms q ys x (k₀ .1) (k .1)) (es .0) .1 (es .1),
       )
 
   pub after-passing : (w : MonitorView) (ys xs : List ℕ) → w ≡ after ys → Each IsPassed (rulings w xs) → afterTicks w xs ≡ after (ys ++ xs)
@@ -148,17 +153,17 @@ module _ (p q : Pair) (ys : AllYes (pairQuestions p)) (ys′ : AllYes (pairQuest
   )
 
   -- Where every stream that conforms to p conforms to q, nothing is lost.
-  pub never-lost : ((zs : List ℕ) → Conforms p zs → Conforms q zs) → (w : MonitorView) (ys xs : List ℕ) → w ≡ after ys → Conforms p ys
+  pub never-lost : ((zs : List ℕ) → Conforms c zs → Conforms q zs) → (w : MonitorView) (ys xs : List ℕ) → w ≡ after ys → Conforms c ys
       → Each NotLost (rulings w xs)
   unfolding rulings
-  never-lost closed w ys [] s c = tt
-  never-lost closed w ys (x ∷ xs) s c =
+  never-lost closed w ys [] s k = tt
+  never-lost closed w ys (x ∷ xs) s k₀ =
       let passed-is = right-of-all w ys s x (judged passed) in (
         (λ e.
             let (k, n) = right-of-all w ys s x lost .0 e in
-            n (conforms-keeps q (then ys x) (closed (then ys x) (keeps-conforms p ys x c k)))),
+            n (conforms-keeps q (then ys x) (closed (then ys x) (keeps-conforms c ys x k₀ k)))),
         ⊎-elim
-            (λ e. never-lost closed (afterTick w x) (then ys x) xs (tick-on w ys s x e) (keeps-conforms p ys x c (passed-is .0 e .0)))
+            (λ e. never-lost closed (afterTick w x) (then ys x) xs (tick-on w ys s x e) (keeps-conforms c ys x k₀ (passed-is .0 e .0)))
             (λ f. each-map (λ r. r ≡ result alreadyFailed) NotLost (rulings (afterTick w x) xs) failed-not-lost (f xs))
             (passes-or-fails w ys s x),
       )

@@ -2,6 +2,7 @@
 use Rattle.laws.proofs.Base.{ℕ, _≡_, refl, sym, ap, _∙_, subst, List, _↔_, inl, inr}
 use mathlib.Core.Logic.{Iff·rfl, Iff·trans, Iff·and}
 use Rattle.curves.specs.Pairs.{Pair}
+use Rattle.curves.specs.Unlimited.{curvesOf}
 use Rattle.curves.specs.Ticks.{then, Keeps, Verdict, passed, tooMany, tooFew, Right}
 use Rattle.curves.specs.Questions.{result}
 use Rattle.curves.proofs.Asked.{same-result}
@@ -52,7 +53,7 @@ not-keeps-iff q xs = (λ n. go n (verdict? q xs .0) (verdict? q xs .1), λ o k. 
 
 module _ (w : MonitorView) (x : ℕ) (f : LegalUnfailed w) where
   abbrev p : Pair
-  p = w .view .pair
+  p = curvesOf (w .view .pair)
 
   abbrev q : Pair
   q = w .closed
@@ -91,7 +92,7 @@ module _ (w : MonitorView) (x : ℕ) (f : LegalUnfailed w) where
       go n (tooFew d) r = absurd (n (d, inr (ruling-iff (judged (tooFew d)) .1 r)))
 
 pub outside-iff-some-window : OutsideIffSomeWindow
-outside-iff-some-window w x f = Iff·trans (outside-iff w x f) (not-keeps-iff (w .view .pair) (then (w .view .held) x))
+outside-iff-some-window w x f = Iff·trans (outside-iff w x f) (not-keeps-iff (curvesOf (w .view .pair)) (then (w .view .held) x))
 
 pub answers-right : AnswersRight
 answers-right w x f d = (ruling-iff w x f (judged (tooMany d)), ruling-iff w x f (judged (tooFew d)))

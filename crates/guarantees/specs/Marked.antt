@@ -5,7 +5,9 @@ use mathlib.Core.Path.{_≡_}
 use mathlib.Core.List.{List, [], _∷_, _++_, map}
 use lib.ListN.{length}
 use Rattle.laws.specs.Tests.{Each}
-use Rattle.curves.specs.Pairs.{Pair, pairOf, horizon, Equal}
+use mathlib.Core.Bool.{false}
+use Rattle.curves.specs.Pairs.{Pair, pairOf, horizon}
+use Rattle.curves.specs.Unlimited.{limited, EqualPairs}
 use Rattle.curves.specs.Conformance.{Conforms}
 use Rattle.curves.specs.Questions.{result, refusal}
 use Rattle.closure.specs.Closing.{refusedClosing, givenClosing, closing}
@@ -31,7 +33,7 @@ publishedTriples = header ++ crlf ++ (51 ∷ comma ∷ 48 ∷ comma ∷ 51 ∷ [
 
 -- A horizon of 5, the figures of these triples as they are read, and 4 held ticks: the last of 0, 2, 1, 0, 2, 0.
 unfoldable pub handBuilt : Generator
-handBuilt = record { history = historyOf 5 (3 ∷ 6 ∷ 3 ∷ 12 ∷ 9 ∷ []) (0 ∷ 0 ∷ 0 ∷ 0 ∷ 5 ∷ []) 4 (1 ∷ 0 ∷ 2 ∷ 0 ∷ []) }
+handBuilt = record { history = historyOf 5 (3 ∷ 6 ∷ 3 ∷ 12 ∷ 9 ∷ []) (0 ∷ 0 ∷ 0 ∷ 0 ∷ 5 ∷ []) false 4 (1 ∷ 0 ∷ 2 ∷ 0 ∷ []) }
 
 pub data Case : Type 0 where
   -- Reading the text gives this pair.
@@ -50,25 +52,28 @@ pub data Case : Type 0 where
 -- What a case says, whatever result lists of at least H entries hold.
 abbrev pub CaseHolds : Case → Type 0
 CaseHolds (reads t q) =
-    (found : Pair) → horizon q ≤ length (found .upper) → horizon q ≤ length (found .lower) → GivesPair t found × Equal (givenPair t found) q
+    (found : Pair) → horizon q ≤ length (found .upper) → horizon q ≤ length (found .lower)
+    → GivesPair t found × EqualPairs (givenPair t found) (limited q)
 CaseHolds (closes p n q) =
-    (found : Pair) → horizon p ≤ length (found .upper) → horizon p ≤ length (found .lower) → closing p found ≡ givenClosing n q found
+    (found : Pair) → horizon p ≤ length (found .upper) → horizon p ≤ length (found .lower)
+    → closing (limited p) found ≡ givenClosing n (limited q) found
 CaseHolds (refuses p) =
-    (found : Pair) → horizon p ≤ length (found .upper) → horizon p ≤ length (found .lower) → closing p found ≡ refusedClosing 5 found
+    (found : Pair) → horizon p ≤ length (found .upper) → horizon p ≤ length (found .lower)
+    → closing (limited p) found ≡ refusedClosing 5 found
 CaseHolds (goesOn p xs b) =
-    let sent : View = addedAll (fresh p) xs in
-    (generatorOpening p ≡ result tt)
+    let sent : View = addedAll (fresh (limited p)) xs in
+    (generatorOpening (limited p) ≡ result tt)
     × Conforms p xs
     × (ranging sent ≡ result b)
     × ((choice : ℕ) → sending sent choice ≡ result (chosen b choice))
 CaseHolds (losesFirst p x xs) =
-    (monitorOpening p ≡ result tt)
+    (monitorOpening (limited p) ≡ result tt)
     × Conforms p (x ∷ xs)
-    × (rulings (freshMonitor p) (x ∷ xs) ≡ result lost ∷ map (λ _. result alreadyFailed) xs)
+    × (rulings (freshMonitor (limited p)) (x ∷ xs) ≡ result lost ∷ map (λ _. result alreadyFailed) xs)
 CaseHolds (stops p xs g) =
-    (generatorOpening p ≡ refusal 15)
+    (generatorOpening (limited p) ≡ refusal 15)
     × Conforms p xs
-    × (viewOf (g .history) ≡ addedAll (fresh p) xs)
+    × (viewOf (g .history) ≡ addedAll (fresh (limited p)) xs)
     × ((r : Admissible) → GeneratorRanged g r → rangeReply r ≡ refusal 13)
     × ((choice : ℕ) (r : Sent) → GeneratorTicked g choice r → sendingReply (r .sending) ≡ refusal 13)
 

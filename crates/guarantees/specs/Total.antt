@@ -4,7 +4,7 @@ use Prim.Native.Nat.{ℕ}
 use mathlib.Core.Path.{_≡_}
 use mathlib.Core.List.{[], _∷_}
 use mathlib.Core.Logic.{_↔_}
-use Rattle.curves.specs.Pairs.{Pair}
+use Rattle.curves.specs.Unlimited.{AnyPair}
 use Rattle.curves.specs.Questions.{FirstNo, refusal}
 use Rattle.history.specs.States.{View}
 use Rattle.bounds.specs.Bounds.{pairQuestions}
@@ -24,15 +24,15 @@ use Rattle.generator.specs.Promises.{GeneratorTicked}
 
 -- Opening a history, which both have: 1, 2, 4.
 abbrev pub OpeningRefused : Type 0
-OpeningRefused = (p : Pair) (n : ℕ) → (opening p ≡ refusal n) ↔ FirstNo (pairQuestions p) n
+OpeningRefused = (p : AnyPair) (n : ℕ) → (opening p ≡ refusal n) ↔ FirstNo (pairQuestions p) n
 
 -- Opening a monitor: 1, 2, 4, 5.
 abbrev pub MonitorOpeningRefused : Type 0
-MonitorOpeningRefused = (p : Pair) (n : ℕ) → (monitorOpening p ≡ refusal n) ↔ FirstNo (monitorQuestions p) n
+MonitorOpeningRefused = (p : AnyPair) (n : ℕ) → (monitorOpening p ≡ refusal n) ↔ FirstNo (monitorQuestions p) n
 
 -- Opening a generator: 1, 2, 4, 15.
 abbrev pub GeneratorOpeningRefused : Type 0
-GeneratorOpeningRefused = (p : Pair) (n : ℕ) → (generatorOpening p ≡ refusal n) ↔ FirstNo (generatorQuestions p) n
+GeneratorOpeningRefused = (p : AnyPair) (n : ℕ) → (generatorOpening p ≡ refusal n) ↔ FirstNo (generatorQuestions p) n
 
 -- A tick of the monitor: 12, on a failed state too.
 abbrev pub JudgingRefused : Type 0
