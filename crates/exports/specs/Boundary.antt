@@ -1,7 +1,9 @@
 -- What each call gives back: the operation of the library that it stands for, its answer as a number, its lists as it leaves them.
 -- What a script gives back is said in `scripts`, Scripts.
 use Prim.Native.Nat.{ℕ, _+_, _*_}
+use mathlib.Core.Bool.{Bool, true, false}
 use mathlib.Core.List.{List}
+use lib.Dec.{ltb}
 use lib.ListN.{length}
 use Rattle.laws.specs.Writing.{over}
 use Rattle.curves.specs.Pairs.{Pair}
@@ -9,9 +11,19 @@ use Rattle.closure.specs.Closing.{ClosingAnswer}
 use Rattle.constraints.specs.Reading.{ReadingAnswer}
 
 -- ---- closing and reading
--- A refusal's number in the upper 32 bits, a value in the lower. Values are below 4,294,967,296, and 0 on a refusal.
-abbrev pub inOne : ℕ → ℕ → ℕ
-inOne number value = number * 4_294_967_296 + value
+-- A mark that is given as a number: any but 0 sets it (request P7).
+abbrev pub markFrom : ℕ → Bool
+markFrom n = ltb 0 n
+
+-- A mark that is given back: a bit of its own.
+abbrev pub markBit : Bool → ℕ
+markBit true = 65_536
+markBit false = 0
+
+-- A refusal's number in the upper 32 bits; in the lower a value, and above it the mark. On a refusal both are 0. The two can be told apart,
+-- since every value is below 65,536: rounds by `AtMostNineRounds` (`guarantees`), a horizon by `HorizonWithin` (`constraints`).
+abbrev pub inOne : ℕ → Bool → ℕ → ℕ
+inOne number mark value = number * 4_294_967_296 + markBit mark + value
 
 pub record Returned : Type 0 where
   pub answer : ℕ
@@ -21,10 +33,10 @@ abbrev pub returned : ℕ → Pair → Returned
 returned r left = record { answer = r; results = left }
 
 abbrev pub closingReturned : ClosingAnswer → Returned
-closingReturned a = returned (inOne (a .number) (a .rounds)) (a .results)
+closingReturned a = returned (inOne (a .number) (a .unlimited) (a .rounds)) (a .results)
 
 abbrev pub readingReturned : ReadingAnswer → Returned
-readingReturned a = returned (inOne (a .number) (a .horizon)) (a .results)
+readingReturned a = returned (inOne (a .number) (a .unlimited) (a .horizon)) (a .results)
 
 -- ---- the report
 pub record ReportReturned : Type 0 where

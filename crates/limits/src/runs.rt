@@ -9,7 +9,10 @@ ghost use Prim.Native.Nat.{_≤_};
 ghost use mathlib.Core.Path.{_≡_};
 ghost use lib.ListN.{length};
 
-const CASES: u64 = 120;
+const CASES: u64 = 160;
+
+// The runs after this one have no ceilings.
+const LIMITED_CASES: u64 = 120;
 
 const TICKS: usize = 12;
 
@@ -27,16 +30,23 @@ fn try_example() {
     let upper = [10, 16, 20];
     let lower = [0, 2, 4];
     let counts = [5, 6, 6, 7, 7, 12, 1];
-    try_run(0, &upper, &lower, &counts);
+    try_run(0, &upper, &lower, false, &counts);
 }
 
-// Some streams pass whole, others are rejected early or late, and some pairs are refused.
+// Some streams pass whole, others are rejected early or late, and some pairs are refused. Without ceilings none is refused, and what stands
+// in their place would reject more.
 fn try_drawn(case: u64) {
     let horizon = 1 + numbers::draw(case, 20, 8) as usize;
     let upper = draw_list(case, 6_144, 4, 2, 9);
     let lower = draw_list(case, 7_168, 0, 1, 5);
     let counts = draw_list(case, 14_336, 1, 0, 5);
-    try_run(case, &upper[..horizon], &lower[..horizon], &counts);
+    try_run(
+        case,
+        &upper[..horizon],
+        &lower[..horizon],
+        LIMITED_CASES < case,
+        &counts,
+    );
 }
 
 // Figures or counts: entry i is one of `choices` numbers from `first + i * step` on. An odd `choices` is best: a draw's last bits, and so
@@ -54,14 +64,15 @@ fn draw_list(case: u64, k: u64, first: u32, step: u32, choices: u64) -> [u32; TI
     list
 }
 
-// The number of the case, the horizon, what opening answers, and each tick's answer. A refused opening hands out a state too: its ticks
-// are refused with 12.
-fn try_run(case: u64, upper: &[u32], lower: &[u32], counts: &[u32]) {
-    let opened = Monitor::open(upper, lower);
+// The number of the case, the horizon, the mark, what opening answers, and each tick's answer. A refused opening hands out a state too: its
+// ticks are refused with 12.
+fn try_run(case: u64, upper: &[u32], lower: &[u32], unlimited: bool, counts: &[u32]) {
+    let opened = Monitor::open(upper, lower, unlimited);
     let opening = opened.opening;
     let state = opened.state;
     io::write_all(STDOUT_FILENO, b"run");
     numbers::show_two(case, upper.len() as u64);
+    numbers::show(unlimited as u64);
     show_opening(opening);
     try_ticks(state, counts);
     io::write_all(STDOUT_FILENO, b"\n");

@@ -1,4 +1,6 @@
-// States built by hand: any horizon, any number of held ticks, any figures and counts, and rubbish in the entries that have no effect.
+// States built by hand: any horizon, any number of held ticks, any figures and counts, and rubbish in the entries that have no effect;
+// without ceilings these are the ceilings and the closed figures too.
+use crate::draws;
 use crate::numbers;
 use generator::Admissible;
 use generator::Generator;
@@ -9,19 +11,19 @@ use monitor::Monitor;
 use monitor::Verdict;
 ghost use Prim.Native.Nat.{_≤_};
 
-const CASES: u64 = 400;
+const CASES: u64 = 600;
+
+// The states after this one have no ceilings.
+const LIMITED_CASES: u64 = 400;
 
 const MAX_HORIZON: usize = 256;
-
-const FIGURE_LIMIT: u32 = 16_776_960;
-
-const LARGEST: usize = 18_446_744_073_709_551_615;
 
 const LARGEST_COUNT: u32 = 4_294_967_295;
 
 pub(crate) fn try_all() {
     try_stuck();
-    try_full();
+    try_full(false);
+    try_full(true);
     let mut case = 1;
     while case <= CASES {
         try_state(case);
@@ -47,6 +49,7 @@ fn try_stuck() {
         horizon: 5,
         upper,
         lower,
+        unlimited: false,
         held: 4,
         ticks,
     };
@@ -56,13 +59,14 @@ fn try_stuck() {
 }
 
 // A monitor that holds as many ticks as it can, of the largest count each, over ceilings of 0: no window has a larger sum, and no margin is
-// smaller.
-fn try_full() {
+// smaller. Without ceilings one more of them passes.
+fn try_full(unlimited: bool) {
     let zeros = [0; MAX_HORIZON];
     let history = History {
         horizon: MAX_HORIZON,
         upper: zeros,
         lower: zeros,
+        unlimited,
         held: MAX_HORIZON - 1,
         ticks: [LARGEST_COUNT; MAX_HORIZON],
     };
@@ -80,7 +84,7 @@ fn try_full() {
 fn try_state(case: u64) {
     let history = build(case);
     let monitor = build_monitor(case, history);
-    let count = draw_count(case, 2, 12, 4);
+    let count = draws::draw_count(case, 2, 12, 4);
     io::write_all(STDOUT_FILENO, b"state");
     numbers::show(case);
     try_monitor(monitor, count);
@@ -90,9 +94,9 @@ fn try_state(case: u64) {
 
 // The closed figures have nothing to do with those as given: they are tighter in some windows and looser in others.
 fn build_monitor(case: u64, history: History) -> Monitor {
-    let odd = draw_odd(case, 12, 8);
-    let closed_upper = draw_counts(case, 4_096, odd, 1 + numbers::draw(case, 13, 90));
-    let closed_lower = draw_counts(case, 5_120, odd, 1 + numbers::draw(case, 14, 9));
+    let odd = draws::draw_odd(case, 12, 8, !history.unlimited);
+    let closed_upper = draws::draw_counts(case, 4_096, odd, 1 + numbers::draw(case, 13, 90));
+    let closed_lower = draws::draw_counts(case, 5_120, odd, 1 + numbers::draw(case, 14, 9));
     let failed = numbers::draw(case, 1, 4) == 0;
     Monitor {
         history,
@@ -103,78 +107,22 @@ fn build_monitor(case: u64, history: History) -> Monitor {
 }
 
 fn build(case: u64) -> History {
-    let odd = draw_odd(case, 3, 4);
-    let horizon = draw_size(case, 4, 11);
-    let held = draw_size(case, 6, 1 + numbers::draw(case, 8, 10));
-    let upper = draw_counts(case, 1_024, odd, 1 + numbers::draw(case, 9, 90));
-    let lower = draw_counts(case, 2_048, odd, 1 + numbers::draw(case, 10, 9));
-    let ticks = draw_counts(case, 3_072, 24, 1 + numbers::draw(case, 11, 6));
+    let unlimited = LIMITED_CASES < case;
+    let upper_odd = draws::draw_odd(case, 3, 4, !unlimited);
+    let lower_odd = draws::draw_odd(case, 3, 4, true);
+    let horizon = draws::draw_size(case, 4, 11);
+    let held = draws::draw_size(case, 6, 1 + numbers::draw(case, 8, 10));
+    let upper = draws::draw_counts(case, 1_024, upper_odd, 1 + numbers::draw(case, 9, 90));
+    let lower = draws::draw_counts(case, 2_048, lower_odd, 1 + numbers::draw(case, 10, 9));
+    let ticks = draws::draw_counts(case, 3_072, 24, 1 + numbers::draw(case, 11, 6));
     History {
         horizon,
         upper,
         lower,
+        unlimited,
         held,
         ticks,
     }
-}
-
-// One of `times` states has figures at the limit and above it among the others, the rest hardly any.
-fn draw_odd(case: u64, k: u64, times: u64) -> u64
-    requires { ⌜ 1 ≤ times ⌝ }
-    ensures { λ r. ⌜ 1 ≤ r ⌝ }
-{
-    if numbers::draw(case, k, times) == 0 {
-        24
-    } else {
-        1_000_000
-    }
-}
-
-// A size below `end`; now and then one that no legal state has, or only one with 256 windows.
-fn draw_size(case: u64, k: u64, end: u64) -> usize
-    requires { ⌜ 1 ≤ end ⌝ }
-{
-    let kind = numbers::draw(case, k, 24);
-    if kind == 0 {
-        return MAX_HORIZON;
-    }
-    if kind == 1 {
-        return MAX_HORIZON + 1;
-    }
-    if kind == 2 {
-        return LARGEST;
-    }
-    numbers::draw(case, k ^ 1, end) as usize
-}
-
-// 256 entries of a state, from the k-th number of the case on.
-fn draw_counts(case: u64, k: u64, odd: u64, end: u64) -> [u32; MAX_HORIZON]
-    requires { ⌜ (1 ≤ odd) × (1 ≤ end) × (end ≤ 256) ⌝ }
-{
-    let mut counts = [0; MAX_HORIZON];
-    let mut i = 0;
-    while i < MAX_HORIZON {
-        counts[i] = draw_count(case, k ^ (i as u64), odd, end);
-        i += 1;
-    }
-    counts
-}
-
-// A count below `end`, or one time in `odd` the largest figure, the number after it, or the largest count.
-fn draw_count(case: u64, k: u64, odd: u64, end: u64) -> u32
-    requires { ⌜ (1 ≤ odd) × (1 ≤ end) × (end ≤ 256) ⌝ }
-{
-    let kind = numbers::draw(case, k, odd);
-    if kind == 0 {
-        return FIGURE_LIMIT;
-    }
-    if kind == 1 {
-        return FIGURE_LIMIT + 1;
-    }
-    if kind == 2 {
-        return LARGEST_COUNT;
-    }
-    numbers::draw(case, k ^ 8_192, end) as u32
 }
 
 // A tick of the monitor: what it answers, and the state that comes back.
@@ -189,8 +137,8 @@ fn try_monitor(monitor: Monitor, count: u32) {
     show_answer(verdict, judgement.margin, judgement.window);
     numbers::show(next.failed as u64);
     show_history(history, added);
-    show_entries(closed_upper, history.horizon, added);
-    show_entries(closed_lower, history.horizon, added);
+    show_entries(closed_upper, ceilings(history), added);
+    show_entries(closed_lower, ceilings(history), added);
 }
 
 // A tick's answer: the verdict, the margin, and the window that has it.
@@ -261,12 +209,22 @@ fn is_sent(sending: Sending) -> bool {
 // The view of a state after a tick that was added; else every entry, since the very state comes back.
 fn show_history(history: History, added: bool) {
     numbers::show_two(history.horizon as u64, history.held as u64);
+    numbers::show(history.unlimited as u64);
     let upper = history.upper;
     let lower = history.lower;
     let ticks = history.ticks;
-    show_entries(upper, history.horizon, added);
+    show_entries(upper, ceilings(history), added);
     show_entries(lower, history.horizon, added);
     show_entries(ticks, history.held, added);
+}
+
+// How many ceilings a view has, or closed figures of either kind: none where the pair has no ceilings.
+fn ceilings(history: History) -> usize {
+    if history.unlimited {
+        0
+    } else {
+        history.horizon
+    }
 }
 
 // The first n entries, or all.

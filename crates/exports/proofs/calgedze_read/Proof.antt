@@ -1,9 +1,14 @@
 -- `exports::calgedze_read` meets its promise: reading's own, with its answer as one number.
 -- Assumes nothing.
-use borrow.Author.Needs.{needs}
+use Rattle.laws.proofs.Base.{ap, needs}
+use Rattle.constraints.proofs.Streams.{read-within}
 use Rattle.exports.proofs.Coded.{read-is}
 use Rattle.exports.proofs.calgedze_read.Statement.{statement}
 use Rattle.exports.proofs.calgedze_read.Tie as tie
+
+reading-answer-requires : tie.Need-reading-answer-requires
+reading-answer-requires c κs =
+    read-within _ _ _ (ap (λ a. a .horizon) (c .before .before .before .before .read .ensures))
 
 returns : tie.Need-returns
 returns c =
@@ -15,7 +20,7 @@ calgedze-read-spec =
     tie.close
     (tie.spec
     (λ c κs. search needs)
-    (λ c κs. search needs)
+    reading-answer-requires
     (λ c. search needs)
     (λ c. search needs)
     returns)

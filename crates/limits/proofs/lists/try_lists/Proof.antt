@@ -15,12 +15,12 @@ part n x xs e l = sym (length-take-le n xs (omega (arith, ap length e ∙ length
 
 slice-aggregate-try-pair : tie.Need-slice-aggregate-try-pair
 slice-aggregate-try-pair c =
-    let made = c .before .before .before .before .before .before in
+    let made = c .before .before .before .before .before .before .before in
     part _ _ _ (made .repeated .ensures) (made .before .pre)
 
 slice-aggregate-try-pair-2 : tie.Need-slice-aggregate-try-pair-2
 slice-aggregate-try-pair-2 c =
-    let made = c .before .before .before .before .before .before in
+    let made = c .before .before .before .before .before .before .before in
     part _ _ _ (made .repeated2 .ensures) (made .before .before .pre)
 
 pub try-lists-spec : {M : Type 1} → statement M
@@ -30,6 +30,7 @@ try-lists-spec =
     (λ c κs. search needs)
     (λ c κs. search needs)
     (λ c. search needs)
+    (λ c κs. search needs)
     (λ c κs. search needs)
     (λ c κs. search needs)
     (λ c κs. search needs)

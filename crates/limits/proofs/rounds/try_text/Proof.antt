@@ -9,11 +9,12 @@ use Rattle.limits.proofs.rounds.try_text.Tie as tie
 
 slice-aggregate-try-closing : tie.Need-slice-aggregate-try-closing
 slice-aggregate-try-closing c =
-    let read = c .before .before .before .before in sym (length-take-le _ _ (omega (arith, read .calgedze-read .kept)))
+    let read = c .before .before .before .before .before in sym (length-take-le _ _ (omega (arith, read .calgedze-read .kept)))
 
 slice-aggregate-try-closing-2 : tie.Need-slice-aggregate-try-closing-2
 slice-aggregate-try-closing-2 c =
-    let read = c .before .before .before .before .before in sym (length-take-le _ _ (omega (arith, read .calgedze-read .kept)))
+    let read = c .before .before .before .before .before .before in
+    sym (length-take-le _ _ (omega (arith, read .calgedze-read .kept)))
 
 pub try-text-spec : {M : Type 1} → statement M
 try-text-spec =
@@ -23,6 +24,7 @@ try-text-spec =
     (λ c κs. search needs)
     (λ c. search needs)
     (λ c. search needs)
+    (λ c κs. search needs)
     (λ c κs. search needs)
     (λ c. search needs)
     slice-aggregate-try-closing

@@ -6,10 +6,10 @@ use Rattle.limits.proofs.runs.try_all.Statement.{statement}
 use Rattle.limits.proofs.runs.try_all.Tie as tie
 
 abbrev Inv-loop : tie.InvT-loop
-Inv-loop case₀ case = case ≤ 121
+Inv-loop case₀ case = case ≤ 161
 
 abbrev μ-loop : tie.MeasureT-loop
-μ-loop case₀ case = 121 - case
+μ-loop case₀ case = 161 - case
 
 pub try-all-spec : {M : Type 1} → statement M
 try-all-spec =

@@ -6,10 +6,10 @@ use Rattle.limits.proofs.states.try_all.Statement.{statement}
 use Rattle.limits.proofs.states.try_all.Tie as tie
 
 abbrev Inv-loop : tie.InvT-loop
-Inv-loop case₀ case = case ≤ 401
+Inv-loop case₀ case = case ≤ 601
 
 abbrev μ-loop : tie.MeasureT-loop
-μ-loop case₀ case = 401 - case
+μ-loop case₀ case = 601 - case
 
 pub try-all-spec : {M : Type 1} → statement M
 try-all-spec =
@@ -17,6 +17,7 @@ try-all-spec =
     (tie.spec
     Inv-loop
     μ-loop
+    (λ c κs. search needs)
     (λ c κs. search needs)
     (λ c κs. search needs)
     (λ c. search needs)

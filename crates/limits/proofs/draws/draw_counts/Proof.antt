@@ -1,11 +1,11 @@
--- `limits::states::draw_counts` is safe: every store is within the 256 entries.
+-- `limits::draws::draw_counts` is safe: every store is within the 256 entries.
 -- Assumes nothing.
 use Prim.Native.Nat.{_-_}
 use mathlib.Core.Path.{_≡_}
 use borrow.Author.Needs.{needs}
 use lib.ListN.{length}
-use Rattle.limits.proofs.states.draw_counts.Statement.{statement}
-use Rattle.limits.proofs.states.draw_counts.Tie as tie
+use Rattle.limits.proofs.draws.draw_counts.Statement.{statement}
+use Rattle.limits.proofs.draws.draw_counts.Tie as tie
 
 abbrev Inv-loop : tie.InvT-loop
 Inv-loop case k odd end counts₀ i₀ counts i = length counts ≡ 256
