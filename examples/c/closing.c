@@ -1,6 +1,7 @@
 /*
  * Closes a pair of arrival curves and shows how a refusal is told; opens a generator on curves as they are written, which is refused, and
- * on their closure, and judges what it sends; then a start that keeps its curves as they are written, and is lost.
+ * on their closure, and judges what it sends; then a start that keeps its curves as they are written, and is lost. Last, a pair
+ * without ceilings.
  *
  *     gcc -std=c99 -Iinclude examples/c/closing.c target/staticlib/libexports.a -o target/closing
  */
@@ -16,20 +17,28 @@ static void print_list(const char *name, const uint32_t *list, size_t length)
     printf("\n");
 }
 
-/* Closes a pair and prints what comes of it. Gives back 1 where there is a closure. */
-static int close_and_print(const uint32_t *upper, const uint32_t *lower, uint32_t *closed_upper, uint32_t *closed_lower, size_t horizon)
+static void print_pair(const uint32_t *upper, const uint32_t *lower, uint32_t unlimited, size_t horizon)
 {
-    calgedze_answer answer = calgedze_close(upper, horizon, lower, horizon, closed_upper, horizon, closed_lower, horizon);
-
-    print_list("upper", upper, horizon);
+    if (unlimited)
+        printf("no ceilings\n");
+    else
+        print_list("upper", upper, horizon);
     print_list("lower", lower, horizon);
+}
+
+/* Closes a pair and prints what comes of it. Gives back 1 where there is a closure. */
+static int close_and_print(const uint32_t *upper, const uint32_t *lower, uint32_t unlimited, uint32_t *closed_upper,
+                           uint32_t *closed_lower, size_t horizon)
+{
+    calgedze_answer answer = calgedze_close(upper, horizon, lower, horizon, unlimited, closed_upper, horizon, closed_lower, horizon);
+
+    print_pair(upper, lower, unlimited, horizon);
     if (CALGEDZE_REFUSAL(answer) != 0) {
         printf("refused with %lu\n\n", (unsigned long)CALGEDZE_REFUSAL(answer));
         return 0;
     }
     printf("closed, rounds that changed a figure: %lu\n", (unsigned long)CALGEDZE_VALUE(answer));
-    print_list("upper", closed_upper, horizon);
-    print_list("lower", closed_lower, horizon);
+    print_pair(closed_upper, closed_lower, CALGEDZE_UNLIMITED(answer), horizon);
     printf("\n");
     return 1;
 }
@@ -48,12 +57,13 @@ static void print_verdict(uint32_t verdict)
         printf(" too-many-in-%lu", (unsigned long)(verdict - CALGEDZE_TOO_MANY));
 }
 
-static void judge_and_print(const uint32_t *upper, const uint32_t *lower, size_t horizon, uint32_t *script, size_t length)
+static void judge_and_print(const uint32_t *upper, const uint32_t *lower, uint32_t unlimited, size_t horizon, uint32_t *script,
+                            size_t length)
 {
     uint32_t refusal;
 
     print_list("counts", script, length);
-    refusal = calgedze_judge(upper, horizon, lower, horizon, script, length);
+    refusal = calgedze_judge(upper, horizon, lower, horizon, unlimited, script, length);
     if (refusal != 0) {
         printf("refused with %lu\n", (unsigned long)refusal);
         return;
@@ -65,17 +75,36 @@ static void judge_and_print(const uint32_t *upper, const uint32_t *lower, size_t
 }
 
 /* Puts the counts that a generator sends in the place of the choices. Gives back 1 where it opens. */
-static int generate(const uint32_t *upper, const uint32_t *lower, size_t horizon, uint32_t *script, size_t length)
+static int generate(const uint32_t *upper, const uint32_t *lower, uint32_t unlimited, size_t horizon, uint32_t *script, size_t length)
 {
     uint32_t refusal;
 
     print_list("choices", script, length);
-    refusal = calgedze_generate(upper, horizon, lower, horizon, script, length);
+    refusal = calgedze_generate(upper, horizon, lower, horizon, unlimited, script, length);
     if (refusal != 0) {
         printf("refused with %lu\n", (unsigned long)refusal);
         return 0;
     }
     return 1;
+}
+
+/* A sporadic bus: 2 at least in three ticks and 4 at least in five, and no ceilings. Of the first list only the length has an effect. */
+static int sporadic(void)
+{
+    const uint32_t none[5] = {0}, lower[5] = {0, 0, 2, 0, 4};
+    uint32_t script[8] = {0, 9, 4, 0, 0, 0, 1, 2}, bursts[6] = {4000000000u, 0, 0, 1, 0, 3};
+    uint32_t unused[5], closed[5];
+
+    printf("\n");
+    if (!close_and_print(none, lower, 1, unused, closed, 5))
+        return 1;
+    generate(none, lower, 1, 5, script, 8);
+    if (!generate(none, closed, 1, 5, script, 8))
+        return 1;
+    judge_and_print(none, lower, 1, 5, script, 8);
+    /* 4,000,000,000 passes, since nothing is too many; the three ticks after it have 1 together and need 2. */
+    judge_and_print(none, lower, 1, 5, bursts, 6);
+    return 0;
 }
 
 int main(void)
@@ -91,18 +120,18 @@ int main(void)
     uint32_t lost[6] = {0, 2, 1, 0, 2, 0};
     uint32_t closed_upper[5], closed_lower[5];
 
-    close_and_print(one_upper, one_lower, closed_upper, closed_lower, 5);
-    close_and_print(no_upper, no_lower, closed_upper, closed_lower, 3);
-    if (!close_and_print(upper, lower, closed_upper, closed_lower, 4))
+    close_and_print(one_upper, one_lower, 0, closed_upper, closed_lower, 5);
+    close_and_print(no_upper, no_lower, 0, closed_upper, closed_lower, 3);
+    if (!close_and_print(upper, lower, 0, closed_upper, closed_lower, 4))
         return 1;
 
     /* A generator opens on closed curves only: 15 on these as they are written, and the choices stay. On the closure it always sends. */
-    generate(upper, lower, 4, script, 10);
-    if (!generate(closed_upper, closed_lower, 4, script, 10))
+    generate(upper, lower, 0, 4, script, 10);
+    if (!generate(closed_upper, closed_lower, 0, 4, script, 10))
         return 1;
-    judge_and_print(closed_upper, closed_lower, 4, script, 10);
-    judge_and_print(closed_upper, closed_lower, 4, bad, 6);
+    judge_and_print(closed_upper, closed_lower, 0, 4, script, 10);
+    judge_and_print(closed_upper, closed_lower, 0, 4, bad, 6);
     /* On the first pair, as it is written: each window of these six ticks keeps its figures, but none that begins so goes on for ever. */
-    judge_and_print(one_upper, one_lower, 5, lost, 6);
-    return 0;
+    judge_and_print(one_upper, one_lower, 0, 5, lost, 6);
+    return sporadic();
 }

@@ -1,5 +1,6 @@
 //! Reads a constraint text and closes its curves; opens a generator on the curves as written, which is refused, and on the closed ones,
-//! and judges the twenty ticks that it sends; then a stream that goes wrong, and a start that keeps the curves as written and is lost.
+//! and judges the twenty ticks that it sends; then a stream that goes wrong, and a start that keeps the curves as written and is lost. At
+//! last a text with leasts alone.
 //!
 //!     rustc --edition 2021 examples/rust/traffic.rs -L native=target/staticlib -l static=exports -o target/traffic
 
@@ -9,6 +10,7 @@ extern "C" {
         upper_length: usize,
         lower: *const u32,
         lower_length: usize,
+        unlimited: u32,
         closed_upper: *mut u32,
         closed_upper_length: usize,
         closed_lower: *mut u32,
@@ -27,6 +29,7 @@ extern "C" {
         upper_length: usize,
         lower: *const u32,
         lower_length: usize,
+        unlimited: u32,
         script: *mut u32,
         script_length: usize,
     ) -> u32;
@@ -35,6 +38,7 @@ extern "C" {
         upper_length: usize,
         lower: *const u32,
         lower_length: usize,
+        unlimited: u32,
         script: *mut u32,
         script_length: usize,
     ) -> u32;
@@ -44,10 +48,12 @@ extern "C" {
 #[derive(Debug)]
 struct Refusal(u32);
 
-/// The ceilings (upper curve) and the leasts (lower curve) of the windows of 1, 2, 3 and so on ticks.
+/// The ceilings (upper curve) and the leasts (lower curve) of the windows of 1, 2, 3 and so on ticks. The mark is 1 where there are no
+/// ceilings; of the first list only the length has an effect then.
 struct Curves {
     upper: Vec<u32>,
     lower: Vec<u32>,
+    unlimited: u32,
 }
 
 enum Verdict {
@@ -58,10 +64,10 @@ enum Verdict {
     AlreadyFailed,
 }
 
-/// An answer has a refusal's number in its upper half or a value in its lower.
-fn value(answer: u64) -> Result<u32, Refusal> {
+/// An answer has a refusal's number in its upper half; or in its lower a value, and one bit above that, the pair's mark.
+fn value_and_mark(answer: u64) -> Result<(u32, u32), Refusal> {
     match (answer >> 32) as u32 {
-        0 => Ok(answer as u32),
+        0 => Ok((answer as u32 % 65_536, answer as u32 / 65_536)),
         number => Err(Refusal(number)),
     }
 }
@@ -79,10 +85,10 @@ fn read(text: &[u8]) -> Result<Curves, Refusal> {
     let (mut upper, mut lower) = (vec![0; 256], vec![0; 256]);
     // SAFETY: each pointer goes with the length of its list, and the two lists that are written are apart.
     let answer = unsafe { calgedze_read(text.as_ptr(), text.len(), upper.as_mut_ptr(), 256, lower.as_mut_ptr(), 256) };
-    let horizon = value(answer)? as usize;
-    upper.truncate(horizon);
-    lower.truncate(horizon);
-    Ok(Curves { upper, lower })
+    let (horizon, unlimited) = value_and_mark(answer)?;
+    upper.truncate(horizon as usize);
+    lower.truncate(horizon as usize);
+    Ok(Curves { upper, lower, unlimited })
 }
 
 impl Curves {
@@ -96,6 +102,7 @@ impl Curves {
         let mut closed = Curves {
             upper: vec![0; horizon],
             lower: vec![0; horizon],
+            unlimited: 0,
         };
         let (closed_upper, closed_lower) = (closed.upper.as_mut_ptr(), closed.lower.as_mut_ptr());
         // SAFETY: all four lists have `horizon` entries, and the two that are written are apart from the others.
@@ -105,31 +112,33 @@ impl Curves {
                 horizon,
                 self.lower.as_ptr(),
                 horizon,
+                self.unlimited,
                 closed_upper,
                 horizon,
                 closed_lower,
                 horizon,
             )
         };
-        let rounds = value(answer)?;
+        let (rounds, unlimited) = value_and_mark(answer)?;
+        closed.unlimited = unlimited;
         Ok((closed, rounds))
     }
 
     /// The counts that a generator sends for these choices. It opens on closed curves only.
     fn generate(&self, choices: &[u32]) -> Result<Vec<u32>, Refusal> {
         let mut script = choices.to_vec();
-        let (upper, lower) = (self.upper.as_ptr(), self.lower.as_ptr());
+        let (upper, lower, horizon) = (self.upper.as_ptr(), self.lower.as_ptr(), self.horizon());
         // SAFETY: each pointer goes with the length of its list.
-        opened(unsafe { calgedze_generate(upper, self.horizon(), lower, self.horizon(), script.as_mut_ptr(), script.len()) })?;
+        opened(unsafe { calgedze_generate(upper, horizon, lower, horizon, self.unlimited, script.as_mut_ptr(), script.len()) })?;
         Ok(script)
     }
 
     /// What a monitor says of these counts.
     fn judge(&self, counts: &[u32]) -> Result<Vec<Verdict>, Refusal> {
         let mut script = counts.to_vec();
-        let (upper, lower) = (self.upper.as_ptr(), self.lower.as_ptr());
+        let (upper, lower, horizon) = (self.upper.as_ptr(), self.lower.as_ptr(), self.horizon());
         // SAFETY: each pointer goes with the length of its list.
-        opened(unsafe { calgedze_judge(upper, self.horizon(), lower, self.horizon(), script.as_mut_ptr(), script.len()) })?;
+        opened(unsafe { calgedze_judge(upper, horizon, lower, horizon, self.unlimited, script.as_mut_ptr(), script.len()) })?;
         Ok(script.into_iter().map(verdict).collect())
     }
 }
@@ -146,7 +155,10 @@ fn verdict(entry: u32) -> Verdict {
 }
 
 fn print_curves(name: &str, curves: &Curves) {
-    println!("{name}: upper {:?}, lower {:?}", curves.upper, curves.lower);
+    match curves.unlimited {
+        0 => println!("{name}: upper {:?}, lower {:?}", curves.upper, curves.lower),
+        _ => println!("{name}: no ceilings, lower {:?}", curves.lower),
+    }
 }
 
 fn print_verdicts(counts: &[u32], verdicts: &[Verdict]) {
@@ -187,6 +199,21 @@ fn run() -> Result<(), Refusal> {
     // On the curves as written: 3 in four ticks keep every figure so far, but the next four have 6 at most, and eight need 10.
     let start = [2, 0, 1, 0, 2, 1];
     print_verdicts(&start, &given.judge(&start)?);
+    sporadic()
+}
+
+/// A bus with leasts alone: 2 in three ticks, 4 in five. No count is too many, and no stream is lost.
+fn sporadic() -> Result<(), Refusal> {
+    let given = read(b"window,least,most\r\n3,2,\r\n5,4,\r\n")?;
+    print_curves("sporadic", &given);
+    let (closed, rounds) = given.close()?;
+    print_curves("closed", &closed);
+    println!("rounds that changed a figure: {rounds}");
+    // A choice of 0 is the fewest messages that keep every window; one of 16,776,960 sends as many where the fewest is 0, as here.
+    let sent = closed.generate(&[0, 0, 0, 0, 0, 0, 16_776_960, 0, 0, 0])?;
+    println!("sent: {sent:?}");
+    let heard = [4_000_000_000, 0, 0, 1, 0, 3];
+    print_verdicts(&heard, &given.judge(&heard)?);
     Ok(())
 }
 

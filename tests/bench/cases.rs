@@ -87,7 +87,7 @@ fn closing_a_text() -> Case {
     let (mut upper, mut lower) = (vec![0; 256], vec![0; 256]);
     assert_eq!(Product.read(text, &mut upper, &mut lower), 256);
     let (mut closed_upper, mut closed_lower) = (upper.clone(), lower.clone());
-    assert_eq!(Product.close(&upper, &lower, &mut closed_upper, &mut closed_lower), 3);
+    assert_eq!(Product.close(&upper, &lower, 0, &mut closed_upper, &mut closed_lower), 3);
     closing("closing, 256, 3 rounds", upper, lower)
 }
 
@@ -102,7 +102,7 @@ fn curves(horizon: u32) -> (Vec<u32>, Vec<u32>) {
     let upper: Vec<u32> = (1..=horizon).map(|window| 5 * window / 2 + 9).collect();
     let lower: Vec<u32> = (1..=horizon).map(|window| (5 * window / 2).saturating_sub(9)).collect();
     let (mut closed_upper, mut closed_lower) = (upper.clone(), lower.clone());
-    Product.close(&upper, &lower, &mut closed_upper, &mut closed_lower);
+    Product.close(&upper, &lower, 0, &mut closed_upper, &mut closed_lower);
     (closed_upper, closed_lower)
 }
 
@@ -134,7 +134,7 @@ fn generator(name: &'static str, horizon: u32) -> Case {
 /// The stream that a generator sends on the same curves, so that every tick is passed and every window judged.
 fn monitor(name: &'static str, horizon: u32) -> Case {
     let mut case = generator(name, horizon);
-    Product.generate(&case.upper, &case.lower, &mut case.script);
+    Product.generate(&case.upper, &case.lower, 0, &mut case.script);
     case.run = judge;
     case
 }
@@ -159,13 +159,19 @@ pub fn not_closed() -> Vec<Case> {
     pairs.into_iter().map(case).collect()
 }
 
-fn reading() -> Case {
+/// Each window with a least, and with a most or without one.
+fn reading(name: &'static str, with_most: bool) -> Case {
     let mut text = b"window,least,most\r\n".to_vec();
     for window in 1..=256u32 {
-        text.extend(format!("{window},{},{}\r\n", 200 * window, 250 * window + 99).bytes());
+        let most = if with_most {
+            (250 * window + 99).to_string()
+        } else {
+            String::new()
+        };
+        text.extend(format!("{window},{},{most}\r\n", 200 * window).bytes());
     }
     Case {
-        name: "reading, 256 records",
+        name,
         calls: 400,
         run: read,
         upper: Vec::new(),
@@ -205,6 +211,7 @@ pub fn all() -> Vec<Case> {
         monitor("monitor tick, 16", 16),
         generator("generator tick, 256", 256),
         generator("generator tick, 16", 16),
-        reading(),
+        reading("reading, 256 records", true),
+        reading("reading, 256, no most", false),
     ]
 }

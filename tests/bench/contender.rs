@@ -4,6 +4,7 @@ use crate::product::Product;
 use crate::subject::Subject;
 use crate::{builds, plain};
 
+/// All with ceilings: the mark of a pair is not set, and no closing, judging or generating without them is timed.
 type Close = fn(&[u32], &[u32], &mut [u32], &mut [u32]) -> u64;
 type Script = fn(&[u32], &[u32], &mut [u32]) -> u32;
 type Read = fn(&[u8], &mut [u32], &mut [u32]) -> u64;
@@ -21,9 +22,9 @@ pub fn all() -> Vec<Contender> {
     let mut list = vec![
         Contender {
             name: "product",
-            close: |upper, lower, closed_upper, closed_lower| Product.close(upper, lower, closed_upper, closed_lower),
-            judge: |upper, lower, script| Product.judge(upper, lower, script),
-            generate: |upper, lower, script| Product.generate(upper, lower, script),
+            close: |upper, lower, closed_upper, closed_lower| Product.close(upper, lower, 0, closed_upper, closed_lower),
+            judge: |upper, lower, script| Product.judge(upper, lower, 0, script),
+            generate: |upper, lower, script| Product.generate(upper, lower, 0, script),
             read: |text, upper, lower| Product.read(text, upper, lower),
         },
         Contender {

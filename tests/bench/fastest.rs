@@ -5,13 +5,17 @@
 
 use crate::plain;
 use crate::ring::Ring;
-use crate::subject::{refusal_of, refused, ALREADY_FAILED, HEADER, LIMIT, LONGEST_HORIZON, LOST, PASSED, TOO_FEW, TOO_MANY};
+use crate::subject::{answered, refusal_of, refused, ALREADY_FAILED, HEADER, LIMIT, LONGEST_HORIZON, LOST, PASSED, TOO_FEW, TOO_MANY};
 
 /// Windows of one block.
 const BLOCK: usize = 32;
 /// A curve has a block's room before its entry of 1 tick and after its last one, filled so that no candidate from there is taken.
 const SIZE: usize = LONGEST_HORIZON + 2 * BLOCK;
 const FAR: i32 = 1 << 29;
+
+/// What stands for a most that is missing, and for that of a window that is not named: neither is below any most.
+const NO_MOST: u32 = u32::MAX - 1;
+const UNNAMED: u32 = u32::MAX;
 
 type Curve = [i32; SIZE];
 
@@ -207,22 +211,31 @@ fn number(text: &[u8], place: usize) -> Option<(u32, usize)> {
     Some((value, end))
 }
 
+/// The last field of a record: none where CR LF follows right away, which no number begins with.
+#[inline(always)]
+fn last_number(text: &[u8], place: usize) -> Option<(u32, usize)> {
+    if text.get(place) == Some(&b'\r') {
+        return Some((NO_MOST, place));
+    }
+    number(text, place)
+}
+
 /// Reads a text without faults whose records all end with CR LF; nothing where it is another.
 #[inline(always)]
 fn read_good(text: &[u8], upper: &mut [u32], lower: &mut [u32]) -> Option<u64> {
-    let mut named_upper = [u32::MAX; LONGEST_HORIZON + 1];
+    let mut named_upper = [UNNAMED; LONGEST_HORIZON + 1];
     let mut named_lower = [0; LONGEST_HORIZON + 1];
-    let (mut place, mut horizon, mut smallest) = (HEADER.len() + 2, 0, u32::MAX);
+    let (mut place, mut horizon, mut smallest) = (HEADER.len() + 2, 0, NO_MOST);
     if text.get(..place)? != b"window,least,most\r\n" || text.len() > 16_384 {
         return None;
     }
     while place < text.len() {
         let (window, end) = number(text, place)?;
         let (least, next) = number(text, end + 1)?;
-        let (most, last) = number(text, next + 1)?;
+        let (most, last) = last_number(text, next + 1)?;
         let separated = text[end] == b',' && text[next] == b',' && text.get(last..last + 2)? == b"\r\n";
-        let in_range = window.wrapping_sub(1) < 256 && least < 65_536 && most < 65_536;
-        if !separated || !in_range || named_upper[window as usize] != u32::MAX {
+        let in_range = window.wrapping_sub(1) < 256 && least < 65_536 && (most < 65_536 || most == NO_MOST);
+        if !separated || !in_range || named_upper[window as usize] != UNNAMED {
             return None;
         }
         (named_upper[window as usize], named_lower[window as usize]) = (most, least);
@@ -232,14 +245,13 @@ fn read_good(text: &[u8], upper: &mut [u32], lower: &mut [u32]) -> Option<u64> {
     }
     let (upper, lower) = (upper.get_mut(..horizon)?, lower.get_mut(..horizon)?);
     lower.copy_from_slice(&named_lower[1..=horizon]);
-    for (window, (entry, figure)) in (1..).zip(upper.iter_mut().zip(&named_upper[1..])) {
-        *entry = if *figure == u32::MAX { window * smallest } else { *figure };
+    let unlimited = smallest == NO_MOST;
+    if !unlimited {
+        for (window, (entry, figure)) in (1..).zip(upper.iter_mut().zip(&named_upper[1..])) {
+            *entry = if *figure >= NO_MOST { window * smallest } else { *figure };
+        }
     }
-    if horizon > 0 {
-        Some(horizon as u64)
-    } else {
-        None
-    }
+    (horizon > 0).then(|| answered(horizon as u32, unlimited))
 }
 
 #[inline(always)]

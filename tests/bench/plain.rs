@@ -4,8 +4,8 @@
 //! finds no margin here, as the product's does.
 
 use crate::subject::{
-    refusal_of, refused, ALREADY_FAILED, HEADER, LIMIT, LONGEST_HORIZON, LONGEST_TEXT, LOST, NO_COUNT, PASSED, TEXT_LIMIT, TOO_FEW,
-    TOO_MANY,
+    answered, refusal_of, refused, ALREADY_FAILED, HEADER, LIMIT, LONGEST_HORIZON, LONGEST_TEXT, LOST, NO_COUNT, PASSED, TEXT_LIMIT,
+    TOO_FEW, TOO_MANY,
 };
 
 pub fn opening(upper: &[u32], lower: &[u32]) -> u32 {
@@ -279,10 +279,22 @@ fn field<'a>(text: &'a [u8], end: &[u8]) -> Option<(u32, &'a [u8])> {
     }
 }
 
+/// What stands for a most that is missing.
+const NO_MOST: u32 = u32::MAX;
+
+/// The last field, which may be empty.
+fn last_field(text: &[u8]) -> Option<(u32, &[u8])> {
+    match text {
+        [] => Some((NO_MOST, text)),
+        [b'\r', b'\n', rest @ ..] => Some((NO_MOST, rest)),
+        _ => field(text, b"\r\n"),
+    }
+}
+
 fn record(text: &[u8]) -> Option<(u32, u32, u32, &[u8])> {
     let (window, rest) = field(text, b",")?;
     let (least, rest) = field(rest, b",")?;
-    let (most, rest) = field(rest, b"\r\n")?;
+    let (most, rest) = last_field(rest)?;
     Some((window, least, most, rest))
 }
 
@@ -303,7 +315,7 @@ pub fn read(text: &[u8], upper: &mut [u32], lower: &mut [u32]) -> u64 {
         let Some((window, least, most, next)) = record(rest) else {
             return refused(7);
         };
-        if window < 1 || window as usize > LONGEST_HORIZON || least > TEXT_LIMIT || most > TEXT_LIMIT {
+        if window < 1 || window as usize > LONGEST_HORIZON || least > TEXT_LIMIT || (most > TEXT_LIMIT && most != NO_MOST) {
             return refused(8);
         }
         if figures[window as usize - 1].replace((least, most)).is_some() {
@@ -319,8 +331,13 @@ pub fn read(text: &[u8], upper: &mut [u32], lower: &mut [u32]) -> u64 {
     if upper.len() < horizon || lower.len() < horizon {
         return refused(11);
     }
+    let unlimited = smallest == NO_MOST;
     for (place, named) in figures[..horizon].iter().enumerate() {
-        (lower[place], upper[place]) = named.unwrap_or((0, (place as u32 + 1) * smallest));
+        let (least, most) = named.unwrap_or((0, NO_MOST));
+        lower[place] = least;
+        if !unlimited {
+            upper[place] = if most == NO_MOST { (place as u32 + 1) * smallest } else { most };
+        }
     }
-    horizon as u64
+    answered(horizon as u32, unlimited)
 }

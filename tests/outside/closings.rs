@@ -1,32 +1,36 @@
-//! Closings: the subject against the rounds, and the rounds against shortest paths and against rates.
+//! Closings: the subject against the rounds, and the rounds against shortest paths and against rates. Those of pairs without ceilings are
+//! put to the subject here too, and made in `unlimited_closings`.
 
-use crate::pairs::{self, Pair};
-use crate::paths;
+use crate::pair::Pair;
 use crate::random::Rng;
 use crate::reference::Reference;
-use crate::rounds;
 use crate::subject::{refusal_of, shown, value_of, Subject, LIMIT, LONGEST_HORIZON};
 use crate::tally::{Tally, CLOSING, ROUNDS, TWO_FAULTS};
+use crate::{pairs, paths, rounds};
 
 /// Entries on either side of a result list. They lie outside the list, so no call may touch them.
 const MARGIN: usize = 4;
 
 pub struct Case {
-    pub upper: Vec<u32>,
-    pub lower: Vec<u32>,
+    pub pair: Pair,
     /// Each with a margin before and after the list itself.
-    pub closed_upper: Vec<u32>,
-    pub closed_lower: Vec<u32>,
+    closed_upper: Vec<u32>,
+    closed_lower: Vec<u32>,
 }
 
 #[derive(PartialEq)]
-struct Outcome {
-    answer: u64,
+pub struct Outcome {
+    pub answer: u64,
     closed_upper: Vec<u32>,
     closed_lower: Vec<u32>,
 }
 
 impl Outcome {
+    /// The first entries of the list for leasts.
+    pub fn leasts(&self, horizon: usize) -> &[u32] {
+        &self.closed_lower[MARGIN..MARGIN + horizon]
+    }
+
     fn shown(&self) -> String {
         format!(
             "{}\n  closed upper {:?}\n  closed lower {:?}",
@@ -41,8 +45,7 @@ impl Case {
     /// The result lists have the lengths given.
     pub fn new(rng: &mut Rng, pair: Pair, closed_upper_length: usize, closed_lower_length: usize) -> Case {
         Case {
-            upper: pair.upper,
-            lower: pair.lower,
+            pair,
             closed_upper: rng.arbitrary(closed_upper_length + 2 * MARGIN),
             closed_lower: rng.arbitrary(closed_lower_length + 2 * MARGIN),
         }
@@ -53,12 +56,13 @@ impl Case {
         (self.closed_upper.len() - 2 * MARGIN, self.closed_lower.len() - 2 * MARGIN)
     }
 
-    fn put_to(&self, subject: &dyn Subject) -> Outcome {
+    pub fn put_to(&self, subject: &dyn Subject) -> Outcome {
         let (mut closed_upper, mut closed_lower) = (self.closed_upper.clone(), self.closed_lower.clone());
         let (closed_upper_length, closed_lower_length) = self.lengths();
         let answer = subject.close(
-            &self.upper,
-            &self.lower,
+            &self.pair.upper,
+            &self.pair.lower,
+            self.pair.mark,
             &mut closed_upper[MARGIN..MARGIN + closed_upper_length],
             &mut closed_lower[MARGIN..MARGIN + closed_lower_length],
         );
@@ -69,12 +73,11 @@ impl Case {
         }
     }
 
-    fn input(&self) -> String {
+    pub fn input(&self) -> String {
         let (closed_upper_length, closed_lower_length) = self.lengths();
         format!(
-            "close\n  upper {:?}\n  lower {:?}\n  closed upper before {:?}\n  closed lower before {:?}\n",
-            self.upper,
-            self.lower,
+            "close\n{}\n  closed upper before {:?}\n  closed lower before {:?}\n",
+            self.pair.shown(),
             &self.closed_upper[MARGIN..MARGIN + closed_upper_length],
             &self.closed_lower[MARGIN..MARGIN + closed_lower_length]
         )
@@ -82,21 +85,28 @@ impl Case {
 
     /// Which of the questions 1 to 5 has the answer no, each asked by itself; of 5 only whether the given figures cross.
     fn faults(&self) -> Vec<u32> {
-        let horizon = self.upper.len();
+        let horizon = self.pair.horizon();
         let (closed_upper_length, closed_lower_length) = self.lengths();
-        let crosses = self.upper.iter().zip(&self.lower).any(|(upper, lower)| lower > upper);
         let asked = [
             (1, horizon < 1 || horizon > LONGEST_HORIZON),
-            (2, self.lower.len() != horizon),
+            (2, self.pair.lower.len() != horizon),
             (3, closed_upper_length < horizon || closed_lower_length < horizon),
-            (4, self.upper.iter().chain(&self.lower).any(|&figure| figure > LIMIT)),
-            (5, crosses),
+            (4, self.pair.is_over(rounds::closing_limit(&self.pair))),
+            (5, self.pair.crosses()),
         ];
         asked.iter().filter(|question| question.1).map(|question| question.0).collect()
     }
+
+    /// The first question with the answer no, and each other one.
+    pub fn note_faults(&self, kind: &'static str, tally: &mut Tally) {
+        let faults = self.faults();
+        for other in faults.iter().skip(1) {
+            tally.note(kind, 10 * faults[0] + other);
+        }
+    }
 }
 
-fn result_length(rng: &mut Rng, horizon: usize) -> usize {
+pub fn result_length(rng: &mut Rng, horizon: usize) -> usize {
     match rng.below(8) {
         0..=3 => horizon,
         4..=5 => horizon + rng.length(1, 5),
@@ -146,33 +156,31 @@ fn make(rng: &mut Rng, mut pair: Pair) -> Case {
 /// No pair takes more rounds: twice as many steps of a walk are made one in each; and where they arrive, each of them changes a figure by
 /// one at least.
 fn rounds_bound(case: &Case, arrives: bool) -> u64 {
-    let doublings = 1 + u64::from(case.upper.len().next_power_of_two().trailing_zeros());
+    let doublings = 1 + u64::from(case.pair.horizon().next_power_of_two().trailing_zeros());
     if !arrives {
         return doublings;
     }
-    let widths = case
-        .upper
-        .iter()
-        .zip(&case.lower)
-        .map(|(upper, lower)| u64::from(upper.saturating_sub(*lower)));
+    let figures = case.pair.upper.iter().zip(&case.pair.lower);
+    let widths = figures.map(|(upper, lower)| u64::from(upper.saturating_sub(*lower)));
     widths.sum::<u64>().min(doublings)
 }
 
 /// The rounds against the two methods without rounds. A difference here is one inside the reference.
 fn check_reference(case: &Case, expected: &Outcome, paths_too: bool) -> Result<(), String> {
+    let Pair { upper, lower, .. } = &case.pair;
     let none = refusal_of(expected.answer) == 5;
-    if none != paths::rates_conflict(&case.upper, &case.lower) {
+    if none != paths::rates_conflict(upper, lower) {
         return Err(format!("the rounds and the rates disagree on\n{}", case.input()));
     }
-    let rounds = rounds::run(&case.upper, &case.lower).rounds;
+    let rounds = rounds::run(upper, lower).rounds;
     if u64::from(rounds) > rounds_bound(case, !none) {
         return Err(format!("{rounds} rounds are more than there can be on\n{}", case.input()));
     }
     if !paths_too {
         return Ok(());
     }
-    let found = MARGIN..MARGIN + case.upper.len();
-    let agrees = match paths::close(&case.upper, &case.lower) {
+    let found = MARGIN..MARGIN + upper.len();
+    let agrees = match paths::close(upper, lower) {
         None => none,
         Some((upper, lower)) => !none && upper == expected.closed_upper[found.clone()] && lower == expected.closed_lower[found],
     };
@@ -188,21 +196,13 @@ fn note(case: &Case, answer: u64, tally: &mut Tally) {
         0 => tally.note(ROUNDS, value_of(answer)),
         number => tally.note(CLOSING, number),
     }
-    let faults = case.faults();
-    for other in faults.iter().skip(1) {
-        tally.note(TWO_FAULTS, 10 * faults[0] + other);
-    }
+    case.note_faults(TWO_FAULTS, tally);
 }
 
-/// One case: what the subject answers against what the reference does.
-pub fn check(subject: &dyn Subject, case: &Case, paths_too: bool, tally: &mut Tally) -> Result<(), String> {
-    let expected = case.put_to(&Reference);
-    note(case, expected.answer, tally);
-    if matches!(refusal_of(expected.answer), 0 | 5) {
-        check_reference(case, &expected, paths_too)?;
-    }
+/// What the subject answers and leaves in the lists, against what it must.
+pub fn check_outcome(subject: &dyn Subject, case: &Case, expected: &Outcome) -> Result<(), String> {
     let came = case.put_to(subject);
-    if came == expected {
+    if came == *expected {
         return Ok(());
     }
     let note = format!("(result lists are shown with the {MARGIN} entries before and after them)");
@@ -212,6 +212,16 @@ pub fn check(subject: &dyn Subject, case: &Case, paths_too: bool, tally: &mut Ta
         expected.shown(),
         came.shown()
     ))
+}
+
+/// One case of a pair with ceilings: what the subject answers against what the reference does.
+pub fn check(subject: &dyn Subject, case: &Case, paths_too: bool, tally: &mut Tally) -> Result<(), String> {
+    let expected = case.put_to(&Reference);
+    note(case, expected.answer, tally);
+    if matches!(refusal_of(expected.answer), 0 | 5) {
+        check_reference(case, &expected, paths_too)?;
+    }
+    check_outcome(subject, case, &expected)
 }
 
 pub fn compare(subject: &dyn Subject, rng: &mut Rng, tally: &mut Tally) -> Result<(), String> {

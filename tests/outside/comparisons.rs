@@ -4,7 +4,7 @@ use crate::random::Rng;
 use crate::subject::Subject;
 use crate::tally::Tally;
 use crate::workers::Work;
-use crate::{closings, known, lost, promises, reading, scripts, sendings};
+use crate::{closings, known, lost, promises, reading, scripts, sendings, unlimited_closings, unlimited_scripts};
 
 pub struct Comparison {
     pub name: &'static str,
@@ -60,6 +60,30 @@ pub const COMPARISONS: &[Comparison] = &[
         cases: 3_000,
         sample: 100,
         one: closings::compare_long,
+    },
+    Comparison {
+        name: "closings, unlimited",
+        cases: 200_000,
+        sample: 2_000,
+        one: unlimited_closings::compare,
+    },
+    Comparison {
+        name: "monitors, unlimited",
+        cases: 10_000,
+        sample: 300,
+        one: unlimited_scripts::compare_monitor,
+    },
+    Comparison {
+        name: "generators, unlimited",
+        cases: 10_000,
+        sample: 300,
+        one: unlimited_scripts::compare_generator,
+    },
+    Comparison {
+        name: "promises, unlimited",
+        cases: 3_000,
+        sample: 100,
+        one: promises::compare_unlimited,
     },
     Comparison {
         name: "known figures",

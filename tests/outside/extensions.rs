@@ -1,8 +1,11 @@
 //! Which finite streams are extendable, that is, begin an unbounded stream that conforms: for small figures, by trying all counts. What
 //! can follow a stream depends on its last counts only, fewer than the horizon, so there are few pasts; the extendable ones are the
 //! greatest set of them in which each has a next one that is in the set too.
+//!
+//! Without ceilings a tick with the largest least or more keeps every window that it is in, so all such counts are taken for one: for the
+//! top of those that are tried.
 
-use crate::pairs::Pair;
+use crate::pair::Pair;
 use crate::streams::verdict;
 use crate::subject::PASSED;
 
@@ -11,8 +14,9 @@ pub type Past = Vec<u32>;
 
 pub struct Extensions {
     horizon: usize,
-    /// Counts from 0 to this are tried; no greater one keeps the window of one tick.
+    /// Counts from 0 to this are tried. No greater one keeps the window of one tick, or all greater ones are taken for this.
     pub top: u32,
+    unlimited: bool,
     /// Every past, each list of counts as a number: the short ones first.
     pasts: Vec<Past>,
     /// For each past and each count the past that follows, where the count keeps every window that ends there.
@@ -35,6 +39,15 @@ fn all_pasts(horizon: usize, top: u32) -> Vec<Past> {
     list
 }
 
+/// The counts up to this must be tried.
+fn top_of(pair: &Pair) -> u32 {
+    if pair.unlimited() {
+        pair.lower.iter().copied().max().unwrap_or(0)
+    } else {
+        pair.upper[0]
+    }
+}
+
 /// Where a past stands among all of them: after all the shorter ones, then as a number with one digit for each count.
 fn place(past: &[u32], top: u32) -> usize {
     let base = top as usize + 1;
@@ -44,16 +57,30 @@ fn place(past: &[u32], top: u32) -> usize {
 
 impl Extensions {
     pub fn new(pair: &Pair) -> Extensions {
-        let (horizon, top) = (pair.horizon(), pair.upper[0]);
+        Extensions::up_to(pair, top_of(pair))
+    }
+
+    /// Those of two pairs, so that they can be compared: without ceilings the same counts are tried of both.
+    pub fn of_both(one: &Pair, other: &Pair) -> (Extensions, Extensions) {
+        if !one.unlimited() {
+            return (Extensions::new(one), Extensions::new(other));
+        }
+        let top = top_of(one).max(top_of(other));
+        (Extensions::up_to(one, top), Extensions::up_to(other, top))
+    }
+
+    fn up_to(pair: &Pair, top: u32) -> Extensions {
+        let horizon = pair.horizon();
         let pasts = all_pasts(horizon, top);
         let next = pasts
             .iter()
-            .map(|past| (0..=top).map(|count| follow(pair, past, count)).collect())
+            .map(|past| (0..=top).map(|count| follow(pair, past, count, top)).collect())
             .collect();
         let extendable = vec![true; pasts.len()];
         let mut extensions = Extensions {
             horizon,
             top,
+            unlimited: pair.unlimited(),
             pasts,
             next,
             extendable,
@@ -88,14 +115,24 @@ impl Extensions {
             .collect()
     }
 
+    /// The count that stands for a count.
+    fn taken_for(&self, count: u32) -> u32 {
+        if self.unlimited {
+            count.min(self.top)
+        } else {
+            count
+        }
+    }
+
     /// The past of an extendable stream.
     pub fn past_of(&self, stream: &[u32]) -> Past {
-        stream[stream.len().saturating_sub(self.horizon - 1)..].to_vec()
+        let last = &stream[stream.len().saturating_sub(self.horizon - 1)..];
+        last.iter().map(|&count| self.taken_for(count)).collect()
     }
 
     /// Whether an extendable stream still is with one more count.
     pub fn goes_on(&self, stream: &[u32], count: u32) -> bool {
-        self.counts_after(&self.past_of(stream)).contains(&count)
+        self.counts_after(&self.past_of(stream)).contains(&self.taken_for(count))
     }
 
     /// Whether the stream begins an unbounded one that conforms.
@@ -121,11 +158,11 @@ impl Extensions {
 }
 
 /// The past after one more count, where that keeps every window that ends there.
-fn follow(pair: &Pair, past: &[u32], count: u32) -> Option<usize> {
+fn follow(pair: &Pair, past: &[u32], count: u32, top: u32) -> Option<usize> {
     let stream = [past, &[count]].concat();
-    if verdict(&pair.upper, &pair.lower, &stream) != PASSED {
+    if verdict(pair, &stream) != PASSED {
         return None;
     }
     let kept = stream.len().min(pair.horizon() - 1);
-    Some(place(&stream[stream.len() - kept..], pair.upper[0]))
+    Some(place(&stream[stream.len() - kept..], top))
 }

@@ -2,9 +2,11 @@
 //! margin crosses it: a tick that is held though it was rejected, as a failed monitor answers 'already failed' whatever it holds; the order
 //! of 'too many' and 'too few', as no tick after one that passed is both; by which closed figures a tick is lost once the horizon is
 //! filled, or in a state that no opening made; what is asked of a state; what a refused opening hands out; what a generator does where
-//! there is no count, as none that was opened comes to that; and every margin. These are told apart on the states and the streams that the
-//! program `limits` is given, where the margin is compared too, and of a state the mark and the held ticks that come back. To judge by the
-//! given figures twice is, from outside, never to find a tick lost. Two faults are not among the mutants, since nothing shows them:
+//! there is no count, as none that was opened comes to that; without ceilings, what closed figures do in a state, and whether one that has
+//! failed still has its mark; and every margin. These are told apart on the states and the streams that the program `limits` is given,
+//! where the margin is compared too, and of a state both marks and the held ticks that come back. To judge by the given figures twice is,
+//! from outside, never to find a tick lost; and without ceilings a monitor that judged by closed leasts would reject the same ticks. Two
+//! faults are not among the mutants, since nothing shows them:
 //!
 //! - A difference cut off at 0, in a round. U d and L d are the old figures, which do not cross, so none is below 0 or above the limit.
 //!   For a least it changes nothing, as no old least is below 0. For a ceiling: where U (d + t) - L t is below 0, the new ceiling of t is
@@ -182,4 +184,70 @@ pub enum Fault {
     ReportNothingWhenShort,
     ReportLengthCut,
     ReportWithoutLastEnd,
+    // The mark.
+    OneAloneMarks,
+    MarkCutOff,
+    ClosingIgnoresMark,
+    ClosingAnswersNoMark,
+    ClosingAnswersMark,
+    RefusedClosingMarked,
+    RefusedReadingMarked,
+    MonitorIgnoresMark,
+    GeneratorIgnoresMark,
+    TickLosesMark,
+    RejectionLosesMark,
+    ReadingLosesMark,
+    ReadingAnswersNoMark,
+    ReportLosesMark,
+    // Closing without ceilings.
+    SumsOnce,
+    SevenRoundsOfSums,
+    LeastLimitOneLess,
+    LeastLimitOneMore,
+    ClosingAsksOldLimit,
+    ClosingAsksCeilings,
+    FiveWithoutCeilings,
+    ThreeOfLeastsAlone,
+    ClosedUpperCopied,
+    ClosedUpperStandIns,
+    // Openings, monitor and generator without ceilings.
+    OpeningAsksLeastLimit,
+    OpeningAsksNoLeast,
+    OpeningAsksCeilings,
+    FifteenNotAsked,
+    FifteenByOneTick,
+    FifteenByHalves,
+    CeilingJudged,
+    StandInsJudged,
+    CountsLimited,
+    LostWithoutCeilings,
+    TwelveAsksLeastLimit,
+    TwelveAsksCeilings,
+    TwelveAsksClosed,
+    MarginOfNoCeiling,
+    MarginOfStandIns,
+    HiOneLess,
+    HiOneMore,
+    HiLargestCount,
+    HiByCeilings,
+    HiLessHeld,
+    // Texts without a most.
+    EmptyMostRefused,
+    EmptyMostZero,
+    EmptyMostLargest,
+    BlankMostTaken,
+    EmptyLeastTaken,
+    EmptyWindowIsRange,
+    TwoFieldsTaken,
+    AnyMissingUnlimited,
+    LastMostDecides,
+    FilledByTextLimit,
+    MissingByTextLimit,
+    MissingNotTimed,
+    MissingCountsAsZero,
+    ElevenOfLeastsAlone,
+    ReadingWritesCeilings,
+    ReportMostZero,
+    ReportStandIns,
+    ReportTwoFields,
 }

@@ -1,25 +1,35 @@
 //! Closing with a fault: the plain rounds again, kept apart from the reference so that a fault in one is not one in the other.
 
 use crate::faults::Fault::{self, *};
-use crate::subject::{refused, LIMIT, LONGEST_HORIZON};
+use crate::subject::{refused, LEAST_LIMIT, LIMIT, LONGEST_HORIZON, UNLIMITED};
 
 pub struct Faulty {
     pub fault: Fault,
 }
 
-/// Two curves; entry d is the window of d ticks.
+/// The two lists of a pair as they are given, and whether its mark is set.
+#[derive(Clone, Copy)]
+pub struct Lists<'a> {
+    pub upper: &'a [u32],
+    pub lower: &'a [u32],
+    pub unlimited: bool,
+}
+
+/// Two curves; entry d is the window of d ticks. Where the pair has no ceilings, the upper one has what stands in their place.
 #[derive(Clone, PartialEq)]
 pub struct Figures {
     pub upper: Vec<i64>,
     pub lower: Vec<i64>,
+    pub unlimited: bool,
 }
 
 impl Figures {
-    pub fn new(upper: &[u32], lower: &[u32]) -> Figures {
+    pub fn new(lists: Lists) -> Figures {
         let widened = |list: &[u32]| [0].into_iter().chain(list.iter().map(|&figure| i64::from(figure))).collect();
         Figures {
-            upper: widened(upper),
-            lower: widened(lower),
+            upper: widened(lists.upper),
+            lower: widened(lists.lower),
+            unlimited: lists.unlimited,
         }
     }
 
@@ -28,9 +38,31 @@ impl Figures {
     }
 }
 
+/// Who asks whether a figure is above the limit.
+#[derive(Clone, Copy, PartialEq)]
+pub enum Asker {
+    Closing,
+    Opening,
+    State,
+}
+
 impl Faulty {
     pub fn has(&self, fault: Fault) -> bool {
         self.fault == fault
+    }
+
+    /// Whether a number sets the mark.
+    fn sets_mark(&self, mark: u32) -> bool {
+        match self.fault {
+            OneAloneMarks => mark == 1,
+            MarkCutOff => mark % 65_536 != 0,
+            _ => mark != 0,
+        }
+    }
+
+    pub fn lists<'a>(&self, upper: &'a [u32], lower: &'a [u32], mark: u32) -> Lists<'a> {
+        let unlimited = self.sets_mark(mark);
+        Lists { upper, lower, unlimited }
     }
 
     fn too_long(&self, horizon: usize) -> bool {
@@ -38,10 +70,30 @@ impl Faulty {
         horizon < 1 || horizon > longest
     }
 
-    pub fn over_limit(&self, upper: &[u32], lower: &[u32]) -> bool {
-        let limit = LIMIT + u32::from(self.has(LimitOneMore)) - u32::from(self.has(LimitOneLess));
-        let lower = if self.has(LowerNotLimited) { &[] } else { lower };
-        upper.iter().chain(lower).any(|&figure| figure > limit)
+    /// The largest figure that is not above the limit.
+    fn limit(&self, unlimited: bool, asker: Asker) -> u32 {
+        let usual = LIMIT + u32::from(self.has(LimitOneMore)) - u32::from(self.has(LimitOneLess));
+        match (asker, self.fault) {
+            _ if !unlimited => usual,
+            (Asker::Closing, LeastLimitOneLess) => LEAST_LIMIT - 1,
+            (Asker::Closing, LeastLimitOneMore) => LEAST_LIMIT + 1,
+            (Asker::Closing, ClosingAsksOldLimit) => usual,
+            (Asker::Closing, _) => LEAST_LIMIT,
+            (Asker::Opening, OpeningAsksLeastLimit) => LEAST_LIMIT,
+            (Asker::Opening, OpeningAsksNoLeast) => u32::MAX,
+            (Asker::State, TwelveAsksLeastLimit) => LEAST_LIMIT,
+            _ => usual,
+        }
+    }
+
+    pub fn over_limit(&self, lists: Lists, asker: Asker) -> bool {
+        let limit = self.limit(lists.unlimited, asker);
+        let over = |list: &[u32]| list.iter().any(|&figure| figure > limit);
+        let ceilings_asked = match (asker, self.fault) {
+            (Asker::Closing, ClosingAsksCeilings) | (Asker::Opening, OpeningAsksCeilings) | (Asker::State, TwelveAsksCeilings) => true,
+            _ => !lists.unlimited,
+        };
+        (ceilings_asked && over(lists.upper)) || (!self.has(LowerNotLimited) && over(lists.lower))
     }
 
     /// In how many windows a crossing is seen, the shortest first.
@@ -49,21 +101,23 @@ impl Faulty {
         horizon.saturating_sub(usize::from(self.has(HorizonNotCrossed)))
     }
 
-    pub fn given_crosses(&self, upper: &[u32], lower: &[u32]) -> bool {
-        let windows = self.compared_windows(upper.len());
-        upper[..windows].iter().zip(lower).any(|(upper, lower)| lower > upper)
+    pub fn given_crosses(&self, lists: Lists) -> bool {
+        let windows = self.compared_windows(lists.upper.len());
+        let compared = !lists.unlimited || self.has(FiveWithoutCeilings);
+        compared && lists.upper[..windows].iter().zip(lists.lower).any(|(upper, lower)| lower > upper)
     }
 
     /// The questions of closing in their order, or in another one.
-    fn asked(&self, upper: &[u32], lower: &[u32], closed_upper_length: usize, closed_lower_length: usize) -> u32 {
-        let horizon = upper.len();
-        let short = closed_upper_length < horizon || (closed_lower_length < horizon && !self.has(ClosedUpperOnlyAsked));
+    fn asked(&self, lists: Lists, closed_upper_length: usize, closed_lower_length: usize) -> u32 {
+        let (horizon, leasts) = (lists.upper.len(), lists.lower.len());
+        let upper_short = closed_upper_length < horizon && !(lists.unlimited && self.has(ThreeOfLeastsAlone));
+        let short = upper_short || (closed_lower_length < horizon && !self.has(ClosedUpperOnlyAsked));
         let mut questions = [
             (1, self.too_long(horizon)),
-            (2, lower.len() < horizon || (lower.len() > horizon && !self.has(LongerLowerTaken))),
+            (2, leasts < horizon || (leasts > horizon && !self.has(LongerLowerTaken))),
             (3, short),
-            (4, self.over_limit(upper, lower)),
-            (5, self.given_crosses(upper, lower)),
+            (4, self.over_limit(lists, Asker::Closing)),
+            (5, self.given_crosses(lists)),
         ];
         match self.fault {
             TwoBeforeOne => questions.swap(0, 1),
@@ -76,15 +130,15 @@ impl Faulty {
     }
 
     /// Questions 1, 2 and 4.
-    pub fn opening(&self, upper: &[u32], lower: &[u32]) -> u32 {
-        let over = !self.has(OpeningAsksNoLimit) && self.over_limit(upper, lower);
-        if self.too_long(upper.len()) {
+    pub fn opening(&self, lists: Lists) -> u32 {
+        let over = !self.has(OpeningAsksNoLimit) && self.over_limit(lists, Asker::Opening);
+        if self.too_long(lists.upper.len()) {
             return 1;
         }
         if over && self.has(OpeningAsksFourFirst) {
             return 4;
         }
-        if lower.len() != upper.len() {
+        if lists.lower.len() != lists.upper.len() {
             return 2;
         }
         if over {
@@ -96,7 +150,7 @@ impl Faulty {
     fn sums(&self, old: &Figures, new: &mut Figures, d: usize) {
         let end = if self.has(ShortSums) { d.saturating_sub(1) } else { d };
         for a in 1..end {
-            if !self.has(NoSums) && !self.has(NoUpperSums) {
+            if !old.unlimited && !self.has(NoSums) && !self.has(NoUpperSums) {
                 new.upper[d] = new.upper[d].min(old.upper[a] + old.upper[d - a]);
             }
             if !self.has(NoSums) {
@@ -127,13 +181,15 @@ impl Faulty {
         for d in 1..=old.horizon() {
             let from = if self.has(RoundsInPlace) { new.clone() } else { old.clone() };
             self.sums(&from, &mut new, d);
-            self.differences(&from, &mut new, d);
+            if !old.unlimited {
+                self.differences(&from, &mut new, d);
+            }
         }
         new
     }
 
     fn crosses(&self, figures: &Figures, rounds: u32) -> bool {
-        if rounds > 0 && self.has(GivenCrossingOnly) {
+        if figures.unlimited || (rounds > 0 && self.has(GivenCrossingOnly)) {
             return false;
         }
         let equal = i64::from(self.has(CrossingAtEqual));
@@ -142,9 +198,11 @@ impl Faulty {
     }
 
     /// After how many rounds a fault is stopped that would not stop by itself, or not soon.
-    fn most_rounds(&self) -> u32 {
+    fn most_rounds(&self, unlimited: bool) -> u32 {
         match self.fault {
             OnePassOnly => 1,
+            SumsOnce if unlimited => 1,
+            SevenRoundsOfSums if unlimited => 7,
             EightRoundsOnly | GivenCrossingOnly => 8,
             HorizonNotCrossed => 40,
             _ => u32::MAX,
@@ -155,7 +213,7 @@ impl Faulty {
     pub fn rounds(&self, given: Figures) -> (Figures, u32, bool) {
         let mut figures = given;
         let mut rounds = 0;
-        while !self.crosses(&figures, rounds) && rounds < self.most_rounds() {
+        while !self.crosses(&figures, rounds) && rounds < self.most_rounds(figures.unlimited) {
             let next = self.round(&figures);
             if next == figures {
                 return (figures, rounds + u32::from(self.has(LastRoundCounted)), false);
@@ -169,9 +227,22 @@ impl Faulty {
         (figures, rounds, crosses)
     }
 
+    /// What is written in the place of ceilings, if anything is.
+    fn closed_ceilings(&self, figures: &Figures) -> Option<Vec<u32>> {
+        let given = || figures.upper[1..].iter().map(|&figure| figure as u32).collect();
+        let windows = 1..=figures.horizon() as u32;
+        match self.fault {
+            ZerosAlways if !figures.unlimited => Some(windows.map(|_| 0).collect()),
+            _ if !figures.unlimited => Some(given()),
+            ClosedUpperCopied => Some(given()),
+            ClosedUpperStandIns => Some(windows.map(|window| window * LEAST_LIMIT).collect()),
+            _ => None,
+        }
+    }
+
     fn write(&self, figures: &Figures, closed_upper: &mut [u32], closed_lower: &mut [u32]) {
-        for (entry, figure) in closed_upper.iter_mut().zip(&figures.upper[1..]) {
-            *entry = if self.has(ZerosAlways) { 0 } else { *figure as u32 };
+        if let Some(ceilings) = self.closed_ceilings(figures) {
+            closed_upper[..ceilings.len()].copy_from_slice(&ceilings);
         }
         for (entry, figure) in closed_lower.iter_mut().zip(&figures.lower[1..]) {
             *entry = if self.has(ZerosAlways) { 0 } else { *figure as u32 };
@@ -182,24 +253,42 @@ impl Faulty {
         }
     }
 
-    pub fn close_into(&self, upper: &[u32], lower: &[u32], closed_upper: &mut [u32], closed_lower: &mut [u32]) -> u64 {
-        let number = self.asked(upper, lower, closed_upper.len(), closed_lower.len());
+    /// An answer that is a refusal, of a pair without ceilings maybe; with one fault it has the mark.
+    pub fn refused(&self, number: u32, unlimited: bool, fault: Fault) -> u64 {
+        let mark = if unlimited && self.has(fault) { UNLIMITED } else { 0 };
+        refused(number) | mark
+    }
+
+    /// The mark in the answer of a closing.
+    fn answered_mark(&self, unlimited: bool) -> u64 {
+        match self.fault {
+            ClosingAnswersNoMark => 0,
+            ClosingAnswersMark => UNLIMITED,
+            _ if unlimited => UNLIMITED,
+            _ => 0,
+        }
+    }
+
+    pub fn close_into(&self, given: Lists, closed_upper: &mut [u32], closed_lower: &mut [u32]) -> u64 {
+        let unlimited = given.unlimited && !self.has(ClosingIgnoresMark);
+        let lists = Lists { unlimited, ..given };
+        let number = self.asked(lists, closed_upper.len(), closed_lower.len());
         match (number, self.fault) {
             (0, RefusesAll) => return refused(5),
             (0, RefusesAllWithFour) => return refused(4),
             (3 | 4, ThreeForFour) => return refused(7 - number),
             (0, _) => {}
-            (_, _) => return refused(number),
+            (_, _) => return self.refused(number, unlimited, RefusedClosingMarked),
         }
-        let (figures, rounds, crosses) = self.rounds(Figures::new(upper, lower));
+        let (figures, rounds, crosses) = self.rounds(Figures::new(lists));
         if !crosses || self.has(ResultsOnRefusal) {
             self.write(&figures, closed_upper, closed_lower);
         }
         match (crosses, self.fault) {
             (true, RoundsOnRefusal) => refused(5) | u64::from(rounds),
             (true, _) => refused(5),
-            (false, NoRoundCounted | ZerosAlways) => 0,
-            (false, _) => u64::from(rounds),
+            (false, NoRoundCounted | ZerosAlways) => self.answered_mark(unlimited),
+            (false, _) => self.answered_mark(unlimited) + u64::from(rounds),
         }
     }
 }

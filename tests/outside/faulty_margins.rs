@@ -5,14 +5,24 @@ use std::ops::RangeInclusive;
 use crate::faults::Fault::*;
 use crate::faulty_closing::{Faulty, Figures};
 use crate::faulty_monitor::Monitor;
-use crate::faulty_streams::History;
+use crate::faulty_streams::{History, FAR};
 use crate::streams::Margin;
-use crate::subject::{LOST, PASSED};
+use crate::subject::{LEAST_LIMIT, LOST, PASSED};
 
 impl Faulty {
+    /// The ceiling that a margin goes by. Without ceilings it is so far that the least is always nearer.
+    fn margin_ceiling(&self, figures: &Figures, window: usize) -> i64 {
+        match self.fault {
+            MarginOfNoCeiling => figures.upper[window],
+            MarginOfStandIns if figures.unlimited => window as i64 * i64::from(LEAST_LIMIT),
+            _ if figures.unlimited => FAR,
+            _ => figures.upper[window],
+        }
+    }
+
     fn window_margin(&self, history: &History, figures: &Figures, count: u32, window: usize) -> i64 {
         let sum = i64::from(count) + history.before(window - 1);
-        let (above, below) = (figures.upper[window] - sum, sum - figures.lower[window]);
+        let (above, below) = (self.margin_ceiling(figures, window) - sum, sum - figures.lower[window]);
         match self.fault {
             MarginLarger => above.max(below),
             MarginUnsigned => (above as u64).min(below as u64) as i64,

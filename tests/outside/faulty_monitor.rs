@@ -3,13 +3,13 @@
 use std::ops::RangeInclusive;
 
 use crate::faults::Fault::{self, *};
-use crate::faulty_closing::{Faulty, Figures};
-use crate::faulty_streams::History;
-use crate::pairs::Pair;
+use crate::faulty_closing::{Asker, Faulty, Figures, Lists};
+use crate::faulty_streams::{lists_of, History, FAR};
+use crate::pair::Pair;
 use crate::runs::{Course, Run};
 use crate::states::{Judged, State};
 use crate::streams::Margin;
-use crate::subject::{ALREADY_FAILED, LOST, PASSED, REFUSED, TOO_FEW, TOO_MANY};
+use crate::subject::{ALREADY_FAILED, LEAST_LIMIT, LIMIT, LOST, PASSED, REFUSED, TOO_FEW, TOO_MANY};
 
 /// A history, the closed figures, and what a failed monitor failed with.
 pub struct Monitor {
@@ -27,8 +27,7 @@ impl Monitor {
 
     /// On the history of a state that has its sizes. It has not failed.
     fn of_state(state: &State) -> Monitor {
-        let (given, closed) = (state.given(), state.closed());
-        let (given, closed) = (Figures::new(&given.upper, &given.lower), Figures::new(&closed.upper, &closed.lower));
+        let (given, closed) = (Figures::new(lists_of(&state.given())), Figures::new(lists_of(&state.closed())));
         Monitor::new(given, closed, state.stream().to_vec())
     }
 }
@@ -59,10 +58,21 @@ impl Faulty {
         i64::from(count) + history.before(if whole { window } else { window - 1 })
     }
 
+    /// The ceiling that a tick is judged by.
+    fn judged_ceiling(&self, figures: &Figures, window: usize) -> i64 {
+        match self.fault {
+            CeilingJudged => figures.upper[window],
+            StandInsJudged if figures.unlimited => window as i64 * i64::from(LEAST_LIMIT),
+            CountsLimited if figures.unlimited && window == 1 => i64::from(LIMIT),
+            _ if figures.unlimited => FAR,
+            _ => figures.upper[window],
+        }
+    }
+
     /// The verdict of one window by itself.
     fn window_verdict(&self, history: &History, figures: &Figures, count: u32, window: usize) -> u32 {
         let sum = self.window_sum(history, count, window);
-        let many = sum + i64::from(self.has(UpperItselfTooMany)) > figures.upper[window];
+        let many = sum + i64::from(self.has(UpperItselfTooMany)) > self.judged_ceiling(figures, window);
         let few = sum - i64::from(self.has(LowerItselfTooFew)) < figures.lower[window];
         let named = window as u32 - u32::from(self.has(WindowFromZero));
         match (many, few) {
@@ -98,7 +108,8 @@ impl Faulty {
     /// Whether the closed figures find the tick lost, and in which window.
     fn lost_in(&self, monitor: &Monitor, count: u32) -> Option<u32> {
         let history = &monitor.history;
-        if self.has(NeverLost) || (self.has(FirstTickOnly) && !history.held.is_empty()) {
+        let without = history.given.unlimited && !self.has(LostWithoutCeilings);
+        if without || self.has(NeverLost) || (self.has(FirstTickOnly) && !history.held.is_empty()) {
             return None;
         }
         let anew = self.has(LostByClosingAnew).then(|| self.rounds(history.given.clone()).0);
@@ -151,6 +162,9 @@ impl Faulty {
         if !goes_on {
             monitor.failed = verdict;
         }
+        if verdict != PASSED && self.has(RejectionLosesMark) {
+            monitor.history.given.unlimited = false;
+        }
         verdict
     }
 
@@ -165,20 +179,23 @@ impl Faulty {
     }
 
     /// The closed figures of a monitor that is opened, or the number of the refusal.
-    fn closed_at_opening(&self, upper: &[u32], lower: &[u32]) -> Result<Figures, u32> {
-        let number = self.opening(upper, lower);
-        if number == 4 && self.has(OpeningAsksFiveFirst) && self.given_crosses(upper, lower) {
+    fn closed_at_opening(&self, lists: Lists) -> Result<Figures, u32> {
+        let number = self.opening(lists);
+        if number == 4 && self.has(OpeningAsksFiveFirst) && self.given_crosses(lists) {
             return Err(5);
         }
         if number != 0 {
             return Err(number);
         }
-        let given = Figures::new(upper, lower);
+        let given = Figures::new(lists);
+        if lists.unlimited {
+            return Ok(given);
+        }
         let (figures, rounds, crosses) = self.rounds(given.clone());
         match self.fault {
             ClosesNothing => Ok(given),
             NeverFive => Ok(figures),
-            FiveForGivenCrossing if !self.given_crosses(upper, lower) => Ok(figures),
+            FiveForGivenCrossing if !self.given_crosses(lists) => Ok(figures),
             FiveForUnclosed if rounds > 0 => Err(5),
             _ if crosses => Err(5),
             ClosesByOneRound if rounds > 1 => Ok(self.round(&given)),
@@ -187,13 +204,15 @@ impl Faulty {
     }
 
     /// A monitor that is opened, or the number of the refusal.
-    fn opened(&self, upper: &[u32], lower: &[u32]) -> Result<Monitor, u32> {
-        let closed = self.closed_at_opening(upper, lower)?;
-        Ok(Monitor::new(Figures::new(upper, lower), closed, Vec::new()))
+    fn opened(&self, given: Lists) -> Result<Monitor, u32> {
+        let unlimited = given.unlimited && !self.has(MonitorIgnoresMark);
+        let lists = Lists { unlimited, ..given };
+        let closed = self.closed_at_opening(lists)?;
+        Ok(Monitor::new(Figures::new(lists), closed, Vec::new()))
     }
 
-    pub fn judge_into(&self, upper: &[u32], lower: &[u32], script: &mut [u32]) -> u32 {
-        let mut monitor = match self.opened(upper, lower) {
+    pub fn judge_into(&self, given: Lists, script: &mut [u32]) -> u32 {
+        let mut monitor = match self.opened(given) {
             Err(number) => return self.refuse(number, script),
             Ok(monitor) => monitor,
         };
@@ -203,8 +222,8 @@ impl Faulty {
 
     /// A stream on the monitor that an opening hands out, with the margins. A refused one leaves nothing that a margin could be of.
     pub fn course(&self, run: &Run) -> Course {
-        let given = || Figures::new(&run.pair.upper, &run.pair.lower);
-        let (opening, mut monitor) = match self.opened(&run.pair.upper, &run.pair.lower) {
+        let given = || Figures::new(lists_of(&run.pair));
+        let (opening, mut monitor) = match self.opened(lists_of(&run.pair)) {
             Err(opening) if self.has(RefusedHandsOutPair) => (opening, Monitor::new(given(), given(), Vec::new())),
             Err(opening) => {
                 let ticks = vec![(REFUSED + 12, Margin::default()); run.counts.len()];
@@ -217,17 +236,18 @@ impl Faulty {
     }
 
     fn closed_over_limit(&self, state: &State) -> bool {
-        let over = |pair: &Pair| self.over_limit(&pair.upper, &pair.lower);
+        let over = |pair: &Pair| self.over_limit(lists_of(pair), Asker::State);
         match self.fault {
+            _ if state.unlimited() && !self.has(TwelveAsksClosed) => false,
             ClosedNotLimited => false,
-            ClosedLowerNotLimited => self.over_limit(&state.closed().upper, &[]),
+            ClosedLowerNotLimited => over(&Pair::new(&state.closed().upper, &[])),
             ClosedPastHorizonLimited => over(state.whole_closed()),
             _ => over(&state.closed()),
         }
     }
 
     fn is_bad(&self, state: &State) -> bool {
-        let over = |pair: Pair| self.over_limit(&pair.upper, &pair.lower);
+        let over = |pair: Pair| self.over_limit(lists_of(&pair), Asker::State);
         !state.has_sizes() || over(state.given()) || self.closed_over_limit(state)
     }
 
@@ -240,6 +260,7 @@ impl Faulty {
                 answer,
                 margin: margin.unwrap_or_default(),
                 failed: state.failed,
+                unlimited: state.unlimited(),
                 held: None,
             }
         };
@@ -256,6 +277,7 @@ impl Faulty {
             answer,
             margin,
             failed: monitor.failed != PASSED,
+            unlimited: monitor.history.given.unlimited,
             held: added.then_some(monitor.history.held),
         }
     }

@@ -1,18 +1,22 @@
-//! Reading and reporting with a fault: a cursor over the bytes, digit by digit.
+//! Reading with a fault: a cursor over the bytes, digit by digit.
 
 use crate::faults::Fault::*;
 use crate::faulty_closing::Faulty;
-use crate::subject::{refusal_of, refused, HEADER, LONGEST_HORIZON, LONGEST_TEXT, TEXT_LIMIT};
+use crate::pair::Pair;
+use crate::subject::{answered, refused, HEADER, LONGEST_HORIZON, LONGEST_TEXT, TEXT_LIMIT};
 
-/// The figures that a text names; a window not named has none.
-struct Named {
-    figures: Vec<Option<(u32, u32)>>,
-    records: usize,
+/// The least that a record names for its window, and the most, if there is one.
+#[derive(Clone, Copy)]
+struct Bounds {
+    least: u32,
+    most: Option<u32>,
 }
 
-struct Pair {
-    upper: Vec<u32>,
-    lower: Vec<u32>,
+/// What a text names; a window not named has nothing.
+struct Named {
+    bounds: Vec<Option<Bounds>>,
+    records: usize,
+    last: Option<Bounds>,
 }
 
 impl Faulty {
@@ -45,6 +49,21 @@ impl Faulty {
         Some(value)
     }
 
+    /// What the field at a place of a record says: the last one may say nothing.
+    fn field(&self, place: usize, field: &[u8]) -> Result<Option<u32>, u32> {
+        let empty = field.is_empty() || (self.has(BlankMostTaken) && field.trim_ascii().is_empty());
+        match (place, self.fault) {
+            _ if !empty => self.number(field).map(Some).ok_or(7),
+            (2, EmptyMostRefused) => Err(7),
+            (2, EmptyMostZero) => Ok(Some(0)),
+            (2, EmptyMostLargest) => Ok(Some(TEXT_LIMIT)),
+            (2, _) => Ok(None),
+            (1, EmptyLeastTaken) => Ok(Some(0)),
+            (0, EmptyWindowIsRange) => Ok(Some(0)),
+            _ => Err(7),
+        }
+    }
+
     fn in_range(&self, place: usize, value: u32) -> bool {
         let most = TEXT_LIMIT + u32::from(self.has(MostOneMore)) - u32::from(self.has(MostOneLess));
         let longest = LONGEST_HORIZON as u32 - u32::from(self.has(Window256Refused));
@@ -55,35 +74,46 @@ impl Faulty {
         }
     }
 
-    /// One record into the figures, or the number of its fault.
-    fn record(&self, line: &[u8], named: &mut Named) -> Result<(), u32> {
+    /// The fields of a record, of which the last may be missing.
+    fn fields(&self, line: &[u8]) -> Result<[Option<u32>; 3], u32> {
         let fields: Vec<&[u8]> = line.split(|&byte| byte == b',').collect();
-        let mut values = Vec::new();
+        let mut values = [None; 3];
         for (place, field) in fields.iter().take(3).enumerate() {
-            let value = self.number(field).ok_or(7u32)?;
-            if self.has(EightBeforeSeven) && !self.in_range(place, value) {
+            values[place] = self.field(place, field)?;
+            if self.has(EightBeforeSeven) && !values[place].is_none_or(|value| self.in_range(place, value)) {
                 return Err(8);
             }
-            values.push(value);
         }
-        if values.len() != 3 || (fields.len() > 3 && !self.has(FourFieldsTaken)) {
-            return Err(7);
+        match fields.len() {
+            3 => Ok(values),
+            2 if self.has(TwoFieldsTaken) => Ok(values),
+            4.. if self.has(FourFieldsTaken) => Ok(values),
+            _ => Err(7),
         }
-        let window = values[0] as usize;
+    }
+
+    /// One record into what is named, or the number of its fault.
+    fn record(&self, line: &[u8], named: &mut Named) -> Result<(), u32> {
+        let values = self.fields(line)?;
+        let window = values[0].unwrap_or(0) as usize;
         if self.has(Window0Taken) && window == 0 {
             return Err(7);
         }
-        let repeated = (1..=LONGEST_HORIZON).contains(&window) && named.figures[window].is_some() && !self.has(RepeatedWindowTaken);
+        let repeated = (1..=LONGEST_HORIZON).contains(&window) && named.bounds[window].is_some() && !self.has(RepeatedWindowTaken);
         if repeated && self.has(NineBeforeEight) {
             return Err(9);
         }
-        if (0..3).any(|place| !self.in_range(place, values[place])) {
+        if (0..3).any(|place| values[place].is_some_and(|value| !self.in_range(place, value))) {
             return Err(8);
         }
         if repeated {
             return Err(9);
         }
-        named.figures[window] = Some((values[1], values[2]));
+        named.bounds[window] = Some(Bounds {
+            least: values[1].unwrap_or(0),
+            most: values[2],
+        });
+        named.last = named.bounds[window];
         named.records += 1;
         Ok(())
     }
@@ -104,8 +134,9 @@ impl Faulty {
     /// The records of a text, up to a fault.
     fn named(&self, text: &[u8]) -> (Named, Result<(), u32>) {
         let mut named = Named {
-            figures: vec![None; LONGEST_HORIZON + 1],
+            bounds: vec![None; LONGEST_HORIZON + 1],
             records: 0,
+            last: None,
         };
         let found = self.records(text, &mut named);
         (named, found)
@@ -136,103 +167,87 @@ impl Faulty {
         Ok(())
     }
 
-    fn pair(&self, named: &Named) -> Pair {
-        let used = named.figures.iter().flatten();
-        let smallest = used.clone().map(|figures| figures.1).min().unwrap_or(0);
-        let largest = used.map(|figures| figures.1).max().unwrap_or(0);
-        let most = if self.has(LargestMost) { largest } else { smallest };
-        let longest = named.figures.iter().rposition(|figures| figures.is_some()).unwrap_or(1);
-        let horizon = if self.has(HorizonIsRecords) { named.records } else { longest };
-        let mut pair = Pair {
-            upper: Vec::new(),
-            lower: Vec::new(),
-        };
-        for window in 1..=horizon {
-            let times = if self.has(LengthNotTimed) { 1 } else { window as u32 };
-            let unnamed = (u32::from(self.has(UnnamedLowerOne)), times * most);
-            let (lower, upper) = named.figures[window].unwrap_or(unnamed);
-            pair.upper.push(if self.has(NamedUpperCut) {
-                upper.min(times * smallest)
-            } else {
-                upper
-            });
-            pair.lower.push(lower);
+    /// Whether the pair has no ceilings, by the mosts that are given.
+    fn no_ceilings(&self, named: &Named) -> bool {
+        let mut used = named.bounds.iter().flatten();
+        match self.fault {
+            AnyMissingUnlimited => used.any(|bounds| bounds.most.is_none()),
+            LastMostDecides => named.last.is_some_and(|last| last.most.is_none()),
+            _ => used.all(|bounds| bounds.most.is_none()),
         }
-        pair
+    }
+
+    /// The most that a window without one gets a multiple of.
+    fn filler(&self, named: &Named) -> u32 {
+        let used = named.bounds.iter().flatten();
+        let given = used.clone().filter_map(|bounds| bounds.most);
+        let with_missing = used.map(|bounds| bounds.most.unwrap_or(0));
+        let found = match self.fault {
+            LargestMost => given.max(),
+            FilledByTextLimit => None,
+            MissingCountsAsZero => with_missing.min(),
+            _ => given.min(),
+        };
+        found.unwrap_or(TEXT_LIMIT)
+    }
+
+    /// The ceiling of a window.
+    fn ceiling(&self, named: &Named, window: usize, filler: u32) -> u32 {
+        let filled = if self.has(LengthNotTimed) { filler } else { window as u32 * filler };
+        match named.bounds[window] {
+            None => filled,
+            Some(Bounds { most: Some(most), .. }) if self.has(NamedUpperCut) => most.min(filled),
+            Some(Bounds { most: Some(most), .. }) => most,
+            Some(_) if self.has(MissingNotTimed) => filler,
+            Some(_) if self.has(MissingByTextLimit) => window as u32 * TEXT_LIMIT,
+            Some(_) => filled,
+        }
+    }
+
+    fn pair(&self, named: &Named) -> Pair {
+        let longest = named.bounds.iter().rposition(|bounds| bounds.is_some()).unwrap_or(1);
+        let horizon = if self.has(HorizonIsRecords) { named.records } else { longest };
+        let unlimited = self.no_ceilings(named) && !self.has(ReadingLosesMark);
+        let unnamed = u32::from(self.has(UnnamedLowerOne));
+        let filler = self.filler(named);
+        Pair {
+            upper: (1..=horizon).map(|window| self.ceiling(named, window, filler)).collect(),
+            lower: (1..=horizon)
+                .map(|window| named.bounds[window].map_or(unnamed, |bounds| bounds.least))
+                .collect(),
+            mark: u32::from(unlimited),
+        }
+    }
+
+    /// The pair of a text, or the number of the refusal.
+    pub fn pair_of(&self, text: &[u8]) -> Result<Pair, u32> {
+        let (named, found) = self.named(text);
+        found.map(|()| self.pair(&named))
     }
 
     pub fn read_into(&self, text: &[u8], upper: &mut [u32], lower: &mut [u32]) -> u64 {
         let (named, found) = self.named(text);
         let pair = self.pair(&named);
-        let short = upper.len().min(lower.len()) < pair.upper.len();
+        let (horizon, unlimited) = (pair.horizon(), pair.unlimited());
+        let upper_short = upper.len() < horizon && !(unlimited && self.has(ElevenOfLeastsAlone));
+        let short = upper_short || lower.len() < horizon;
         match found {
             Err(7..=9) if self.has(ElevenFirst) && short && named.records > 0 => return refused(11),
             Err(number) => return refused(number),
+            Ok(()) if short => return self.refused(11, unlimited, RefusedReadingMarked),
             Ok(()) => {}
         }
-        let horizon = pair.upper.len();
-        if short {
-            return refused(11);
-        }
-        if self.has(ReadingAsksFive) && pair.lower.iter().zip(&pair.upper).any(|(lower, upper)| lower > upper) {
+        if self.has(ReadingAsksFive) && pair.crosses() {
             return refused(5);
         }
-        upper[..horizon].copy_from_slice(&pair.upper);
+        if !unlimited || self.has(ReadingWritesCeilings) {
+            upper[..horizon].copy_from_slice(&pair.upper);
+        }
         lower[..horizon].copy_from_slice(&pair.lower);
         if self.has(ReadingTailsCleared) {
             upper[horizon..].fill(0);
             lower[horizon..].fill(0);
         }
-        horizon as u64
-    }
-
-    fn closure(&self, text: &[u8]) -> Result<Pair, u32> {
-        let (named, found) = self.named(text);
-        found?;
-        let pair = self.pair(&named);
-        if self.has(ReportUnclosed) {
-            return Ok(pair);
-        }
-        let mut closed = Pair {
-            upper: vec![0; pair.upper.len()],
-            lower: vec![0; pair.upper.len()],
-        };
-        match refusal_of(self.close_into(&pair.upper, &pair.lower, &mut closed.upper, &mut closed.lower)) {
-            0 => Ok(closed),
-            number => Err(number),
-        }
-    }
-
-    fn written(&self, text: &[u8]) -> String {
-        let end = if self.has(ReportLineFeed) { "\n" } else { "\r\n" };
-        let pair = match self.closure(text) {
-            Err(number) => return format!("refused {number}{end}"),
-            Ok(pair) => pair,
-        };
-        let mut written = format!("window,least,most{end}");
-        for (place, (most, least)) in pair.upper.iter().zip(&pair.lower).enumerate() {
-            let (first, second) = if self.has(ReportLeastLast) { (most, least) } else { (least, most) };
-            written += &format!("{},{first},{second}{end}", place + 1);
-        }
-        if self.has(ReportWithoutLastEnd) {
-            written.truncate(written.len() - end.len());
-        }
-        written
-    }
-
-    pub fn report_into(&self, text: &[u8], output: &mut [u8]) -> usize {
-        let written = self.written(text).into_bytes();
-        let short = output.len() < written.len();
-        let room = if short && self.has(ReportNothingWhenShort) {
-            0
-        } else {
-            output.len().min(written.len())
-        };
-        output[..room].copy_from_slice(&written[..room]);
-        if self.has(ReportLengthCut) {
-            room
-        } else {
-            written.len()
-        }
+        answered(horizon as u32, unlimited && !self.has(ReadingAnswersNoMark))
     }
 }

@@ -10,7 +10,7 @@
 //! last d keep that least, if the stream has them all, and with H ticks it does. So no closed ceiling is broken; and no least, likewise.
 
 use crate::extensions::Extensions;
-use crate::pairs::Pair;
+use crate::pair::Pair;
 use crate::random::Rng;
 use crate::streams::{conforms, verdict};
 use crate::subject::{Subject, ALREADY_FAILED, LOST, PASSED};
@@ -19,8 +19,8 @@ use crate::tally::{Tally, JUDGED};
 /// What is due for a tick after those that passed.
 fn due(pair: &Pair, extensions: &Extensions, passed: &[u32], count: u32) -> u32 {
     let stream = [passed, &[count]].concat();
-    if !conforms(&pair.upper, &pair.lower, &stream) {
-        verdict(&pair.upper, &pair.lower, &stream)
+    if !conforms(pair, &stream) {
+        verdict(pair, &stream)
     } else if extensions.goes_on(passed, count) {
         PASSED
     } else {
@@ -41,12 +41,12 @@ fn all_due(pair: &Pair, extensions: &Extensions, counts: &[u32]) -> Vec<u32> {
 /// One stream through a monitor on the pair; where there is no unbounded stream, the opening is refused and the counts stay.
 fn check_stream(subject: &dyn Subject, pair: &Pair, extensions: &Extensions, counts: &[u32], tally: &mut Tally) -> Result<(), String> {
     let mut judged = counts.to_vec();
-    let number = subject.judge(&pair.upper, &pair.lower, &mut judged);
+    let number = subject.judge(&pair.upper, &pair.lower, pair.mark, &mut judged);
     let (expected, due) = match extensions.any_stream() {
         true => (0, all_due(pair, extensions, counts)),
         false => (5, counts.to_vec()),
     };
-    let input = format!("a monitor on\n  {:?}\n  {:?}\ngiven {counts:?}", pair.upper, pair.lower);
+    let input = format!("a monitor on\n{}\ngiven {counts:?}", pair.shown());
     if number != expected || judged != due {
         return Err(format!("{input}\nexpected {expected} {due:?}\ncame {number} {judged:?}"));
     }

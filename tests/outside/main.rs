@@ -8,12 +8,14 @@
 
 mod closings;
 mod comparisons;
+mod draws;
 mod extensions;
 mod fault_list;
 mod faults;
 mod faulty_closing;
 mod faulty_margins;
 mod faulty_monitor;
+mod faulty_report;
 mod faulty_streams;
 mod faulty_text;
 mod known;
@@ -23,6 +25,7 @@ mod lost;
 mod margins;
 mod mutants;
 mod odd_texts;
+mod pair;
 mod pairs;
 mod paths;
 mod product;
@@ -38,9 +41,13 @@ mod sendings;
 mod states;
 mod streams;
 mod subject;
+mod sums;
 mod tally;
 mod text;
 mod texts;
+mod unlimited_closings;
+mod unlimited_pairs;
+mod unlimited_scripts;
 mod workers;
 
 use std::process::ExitCode;

@@ -4,12 +4,15 @@
 use std::cmp::Ordering;
 use std::ops::RangeInclusive;
 
-use crate::pairs::Pair;
+use crate::pair::Pair;
 use crate::states::kind_and_window;
 use crate::streams::{margin, sum, verdict, window_margin, Margin};
 use crate::subject::{LOST, PASSED, TOO_FEW, TOO_MANY};
 use crate::tally::{Tally, MARGIN_BY, MARGIN_CLOSED, MARGIN_CROSSING, MARGIN_LOST};
 use crate::tally::{MARGIN_PAST, MARGIN_REJECTED, MARGIN_SHARED, MARGIN_WINDOW};
+
+/// So many counts within a margin are tried.
+const MOST_TRIED: i64 = 10_000;
 
 /// A tick that was judged: the pairs, the stream with its count at the end, and what was answered.
 pub struct Tick<'a> {
@@ -44,18 +47,17 @@ impl Tick<'_> {
         i64::from(self.stream[self.stream.len() - 1])
     }
 
-    /// The figures of a window, and its sum.
+    /// The figures of a window, and its sum. Where there are no ceilings, a number stands for one that no sum and no margin comes near.
     fn figures_and_sum(&self, window: usize) -> (i64, i64, i64) {
-        let figure = |figures: &[u32]| i64::from(figures[window - 1]);
+        let most = self.given.ceiling(window).map_or(i64::MAX / 2, |most| most as i64);
         let total = sum(&self.stream[self.stream.len() - window..]) as i64;
-        (figure(&self.given.upper), figure(&self.given.lower), total)
+        (most, self.given.least(window) as i64, total)
     }
 
-    /// Whether another count in the place of the last would be too many or too few.
+    /// Whether another count in the place of the last would be too many or too few. A number that is no count is neither.
     fn is_outside_with(&self, count: i64) -> bool {
         let before = &self.stream[..self.stream.len() - 1];
-        let stream = [before, &[count as u32]].concat();
-        verdict(&self.given.upper, &self.given.lower, &stream) != PASSED
+        u32::try_from(count).is_ok_and(|count| verdict(self.given, &[before, &[count]].concat()) != PASSED)
     }
 
     /// Negative exactly for 'too many' and 'too few'. The window is then outside too, so it is not shorter than the verdict's.
@@ -89,8 +91,11 @@ impl Tick<'_> {
         if smallest < 0 {
             return true;
         }
-        let first = (self.count() - smallest).max(0);
-        let all_inside = (first..=self.count() + smallest).all(|count| !self.is_outside_with(count));
+        let (first, last) = ((self.count() - smallest).max(0), self.count() + smallest);
+        // Where there are very many, every so many of them.
+        let step = 1 + (last - first) / MOST_TRIED;
+        let mut tried = (first..=last).step_by(step as usize).chain([last]);
+        let all_inside = tried.all(|count| !self.is_outside_with(count));
         let (_, least, total) = self.figures_and_sum(window as usize);
         let past = self.past();
         let none_fewer = self.count() <= smallest && least + smallest == total;
@@ -104,8 +109,9 @@ impl Tick<'_> {
         let (kind, window) = kind_and_window(self.answer);
         let answered = format!("{kind} in {window}, margin {} in {}", self.margin.smallest, self.margin.window);
         Err(format!(
-            "what request P5 says does not hold of\n  upper {:?}\n  lower {:?}\n  stream {:?}\nanswered {answered}",
-            self.given.upper, self.given.lower, self.stream
+            "what request P5 says does not hold of\n{}\n  stream {:?}\nanswered {answered}",
+            self.given.shown(),
+            self.stream
         ))
     }
 

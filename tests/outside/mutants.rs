@@ -13,8 +13,8 @@ use crate::subject::Subject;
 use crate::workers::locked;
 
 impl Subject for Faulty {
-    fn close(&self, upper: &[u32], lower: &[u32], closed_upper: &mut [u32], closed_lower: &mut [u32]) -> u64 {
-        self.close_into(upper, lower, closed_upper, closed_lower)
+    fn close(&self, upper: &[u32], lower: &[u32], mark: u32, closed_upper: &mut [u32], closed_lower: &mut [u32]) -> u64 {
+        self.close_into(self.lists(upper, lower, mark), closed_upper, closed_lower)
     }
 
     fn read(&self, text: &[u8], upper: &mut [u32], lower: &mut [u32]) -> u64 {
@@ -25,12 +25,12 @@ impl Subject for Faulty {
         self.report_into(text, output)
     }
 
-    fn judge(&self, upper: &[u32], lower: &[u32], script: &mut [u32]) -> u32 {
-        self.judge_into(upper, lower, script)
+    fn judge(&self, upper: &[u32], lower: &[u32], mark: u32, script: &mut [u32]) -> u32 {
+        self.judge_into(self.lists(upper, lower, mark), script)
     }
 
-    fn generate(&self, upper: &[u32], lower: &[u32], script: &mut [u32]) -> u32 {
-        self.generate_into(upper, lower, script)
+    fn generate(&self, upper: &[u32], lower: &[u32], mark: u32, script: &mut [u32]) -> u32 {
+        self.generate_into(self.lists(upper, lower, mark), script)
     }
 }
 

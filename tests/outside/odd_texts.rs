@@ -105,6 +105,31 @@ fn field(rng: &mut Rng) -> Vec<u8> {
     }
 }
 
+/// Records of which any field may be empty, or be missing together with its comma: only the last of three may.
+pub fn empty_fields(rng: &mut Rng) -> Vec<u8> {
+    let mut text = written(&[]);
+    for window in 1..=rng.between(1, 3) {
+        let fields = [window.to_string(), rng.below(9).to_string(), rng.between(7, 20).to_string()];
+        let record = match rng.below(8) {
+            0 => fields[..2].join(","),
+            1 => rng
+                .pick(&[",", ",,", ",,,", "1,,", ",1,", ",,1", ",1,2", "3,1,,", "3,1, ", "3,1,0,"])
+                .to_string(),
+            2..=4 => format!("{},{},", fields[0], fields[1]),
+            _ => {
+                let left = fields.map(|field| if rng.one_in(8) { String::new() } else { field });
+                left.join(",")
+            }
+        };
+        text.extend(record.bytes());
+        text.extend(b"\r\n");
+    }
+    if rng.one_in(3) {
+        text.truncate(text.len() - 2);
+    }
+    text
+}
+
 /// Records of any fields, three of them mostly.
 pub fn records(rng: &mut Rng) -> Vec<u8> {
     let mut text = written(&[]);

@@ -1,75 +1,9 @@
-//! Pairs to try, each within the limits of a pair. Lists that are refused before any figure counts are made where they are used.
+//! Pairs with ceilings to try, each within the limits of a pair. Lists that are refused before any figure counts are made where they are
+//! used; pairs without ceilings are in `unlimited_pairs`.
 
+use crate::pair::{closed, closure, Pair};
 use crate::random::Rng;
-use crate::rounds;
 use crate::subject::{LIMIT, LONGEST_HORIZON};
-
-#[derive(Clone, PartialEq)]
-pub struct Pair {
-    pub upper: Vec<u32>,
-    pub lower: Vec<u32>,
-}
-
-impl Pair {
-    pub fn new(upper: &[u32], lower: &[u32]) -> Pair {
-        Pair {
-            upper: upper.to_vec(),
-            lower: lower.to_vec(),
-        }
-    }
-
-    fn filled(horizon: usize, upper: u32, lower: u32) -> Pair {
-        Pair {
-            upper: vec![upper; horizon],
-            lower: vec![lower; horizon],
-        }
-    }
-
-    /// The loosest figures that there are.
-    pub fn loose(horizon: usize) -> Pair {
-        Pair::filled(horizon, LIMIT, 0)
-    }
-
-    pub fn horizon(&self) -> usize {
-        self.upper.len()
-    }
-
-    /// Whether question 4 is answered no.
-    pub fn over_limit(&self) -> bool {
-        self.upper.iter().chain(&self.lower).any(|&figure| figure > LIMIT)
-    }
-
-    /// Whether some least is above its ceiling, among the windows that both lists have.
-    pub fn crosses(&self) -> bool {
-        self.upper.iter().zip(&self.lower).any(|(upper, lower)| lower > upper)
-    }
-
-    fn set_upper(&mut self, window: usize, figure: u64) {
-        self.upper[window - 1] = figure.min(u64::from(LIMIT)) as u32;
-    }
-
-    fn set_lower(&mut self, window: usize, figure: u64) {
-        self.lower[window - 1] = figure.min(u64::from(LIMIT)) as u32;
-    }
-}
-
-/// The closure, where there is one.
-pub fn closure(pair: &Pair) -> Option<Pair> {
-    rounds::close(&pair.upper, &pair.lower).map(|closed| Pair {
-        upper: rounds::narrowed(&closed.curves.upper),
-        lower: rounds::narrowed(&closed.curves.lower),
-    })
-}
-
-/// Whether closing gives the pair back.
-pub fn closes_to_itself(pair: &Pair) -> bool {
-    closure(pair).is_some_and(|closed| closed == *pair)
-}
-
-/// The closure where there is one, else the pair itself.
-pub fn closed(pair: &Pair) -> Pair {
-    closure(pair).unwrap_or_else(|| pair.clone())
-}
 
 pub fn long_horizon(rng: &mut Rng) -> usize {
     if rng.one_in(3) {

@@ -8,6 +8,7 @@ extern "C" {
         upper_length: usize,
         lower: *const u32,
         lower_length: usize,
+        unlimited: u32,
         closed_upper: *mut u32,
         closed_upper_length: usize,
         closed_lower: *mut u32,
@@ -27,6 +28,7 @@ extern "C" {
         upper_length: usize,
         lower: *const u32,
         lower_length: usize,
+        unlimited: u32,
         script: *mut u32,
         script_length: usize,
     ) -> u32;
@@ -35,6 +37,7 @@ extern "C" {
         upper_length: usize,
         lower: *const u32,
         lower_length: usize,
+        unlimited: u32,
         script: *mut u32,
         script_length: usize,
     ) -> u32;
@@ -43,7 +46,7 @@ extern "C" {
 pub struct Product;
 
 impl Subject for Product {
-    fn close(&self, upper: &[u32], lower: &[u32], closed_upper: &mut [u32], closed_lower: &mut [u32]) -> u64 {
+    fn close(&self, upper: &[u32], lower: &[u32], mark: u32, closed_upper: &mut [u32], closed_lower: &mut [u32]) -> u64 {
         // SAFETY: every pointer goes with the length of its own slice, and slices that can be written overlap no others.
         unsafe {
             calgedze_close(
@@ -51,6 +54,7 @@ impl Subject for Product {
                 upper.len(),
                 lower.as_ptr(),
                 lower.len(),
+                mark,
                 closed_upper.as_mut_ptr(),
                 closed_upper.len(),
                 closed_lower.as_mut_ptr(),
@@ -78,7 +82,7 @@ impl Subject for Product {
         unsafe { calgedze_report(text.as_ptr(), text.len(), output.as_mut_ptr(), output.len()) }
     }
 
-    fn judge(&self, upper: &[u32], lower: &[u32], script: &mut [u32]) -> u32 {
+    fn judge(&self, upper: &[u32], lower: &[u32], mark: u32, script: &mut [u32]) -> u32 {
         // SAFETY: as for closing.
         unsafe {
             calgedze_judge(
@@ -86,13 +90,14 @@ impl Subject for Product {
                 upper.len(),
                 lower.as_ptr(),
                 lower.len(),
+                mark,
                 script.as_mut_ptr(),
                 script.len(),
             )
         }
     }
 
-    fn generate(&self, upper: &[u32], lower: &[u32], script: &mut [u32]) -> u32 {
+    fn generate(&self, upper: &[u32], lower: &[u32], mark: u32, script: &mut [u32]) -> u32 {
         // SAFETY: as for closing.
         unsafe {
             calgedze_generate(
@@ -100,6 +105,7 @@ impl Subject for Product {
                 upper.len(),
                 lower.as_ptr(),
                 lower.len(),
+                mark,
                 script.as_mut_ptr(),
                 script.len(),
             )

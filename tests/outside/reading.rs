@@ -5,8 +5,9 @@ use std::process::{Command, Stdio};
 
 use crate::random::Rng;
 use crate::reference::Reference;
-use crate::subject::{refusal_of, shown, value_of, Subject, LONGEST_HORIZON, LONGEST_REPORT, TEXT_LIMIT};
-use crate::tally::{Tally, FIRST_FAULT, HORIZON, ONE_RECORD, PROGRAM, READING, REPORT, ROOM, SHORT};
+use crate::subject::{mark_of, refusal_of, shown, value_of, Subject, LONGEST_HORIZON, LONGEST_REPORT, TEXT_LIMIT};
+use crate::tally::{Tally, FIRST_FAULT, HORIZON, MOSTS, ONE_RECORD, PROGRAM, READING, REPORT, ROOM, SHORT};
+use crate::tally::{PROGRAM_MOSTS, UNLIMITED_HORIZON, UNLIMITED_READING, UNLIMITED_REPORT};
 use crate::texts::Constraint;
 use crate::{text, texts};
 
@@ -39,7 +40,7 @@ fn read(subject: &dyn Subject, text: &[u8], upper: &[u32], lower: &[u32]) -> Rea
 
 /// Lengths about the horizon that the text has, or about 8 where it has none.
 fn result_length(rng: &mut Rng, text: &[u8]) -> usize {
-    let horizon = text::pair(text).map_or(8, |pair| pair.0.len());
+    let horizon = text::pair(text).map_or(8, |pair| pair.horizon());
     match rng.below(10) {
         0..=3 => LONGEST_HORIZON,
         4..=6 => horizon,
@@ -49,10 +50,17 @@ fn result_length(rng: &mut Rng, text: &[u8]) -> usize {
     }
 }
 
-fn note_reading(answer: u64, tally: &mut Tally) {
+fn note_reading(text: &[u8], answer: u64, tally: &mut Tally) {
     match refusal_of(answer) {
+        0 if mark_of(answer) != 0 => tally.note(UNLIMITED_HORIZON, value_of(answer)),
         0 => tally.note(HORIZON, value_of(answer)),
         number => tally.note(READING, number),
+    }
+    if let Some(mosts) = text::mosts(text) {
+        tally.note(MOSTS, mosts);
+        if mosts == 0 && refusal_of(answer) != 0 {
+            tally.note(UNLIMITED_READING, refusal_of(answer));
+        }
     }
 }
 
@@ -94,7 +102,7 @@ pub fn compare_reading(subject: &dyn Subject, rng: &mut Rng, tally: &mut Tally) 
 
 pub fn check_reading(subject: &dyn Subject, text: &[u8], upper: &[u32], lower: &[u32], tally: &mut Tally) -> Result<(), String> {
     let expected = read(&Reference, text, upper, lower);
-    note_reading(expected.answer, tally);
+    note_reading(text, expected.answer, tally);
     if upper.len().min(lower.len()) == 2 * MARGIN {
         tally.note(SHORT, refusal_of(expected.answer));
     }
@@ -117,6 +125,9 @@ fn report(subject: &dyn Subject, text: &[u8], room: usize) -> (usize, Vec<u8>) {
 pub fn check_report(subject: &dyn Subject, text: &[u8], room: usize, tally: &mut Tally) -> Result<(), String> {
     let expected = report(&Reference, text, room);
     tally.note(REPORT, text::report(text).1);
+    if text::mosts(text) == Some(0) {
+        tally.note(UNLIMITED_REPORT, text::report(text).1);
+    }
     tally.note(ROOM, 1 + u32::from(room > expected.0) - u32::from(room < expected.0));
     let came = report(subject, text, room);
     if came == expected && came.0 <= LONGEST_REPORT {
@@ -154,6 +165,9 @@ pub fn compare_program(program: &str, rng: &mut Rng, tally: &mut Tally) -> Resul
     let text = texts::any(rng);
     let (expected, number) = text::report(&text);
     tally.note(PROGRAM, number);
+    if let Some(mosts) = text::mosts(&text) {
+        tally.note(PROGRAM_MOSTS, mosts);
+    }
     let came = run(program, &text)?;
     if came == expected {
         return Ok(());
@@ -172,7 +186,7 @@ pub fn longest_good_text() -> Vec<u8> {
         .map(|window| Constraint {
             window,
             least: 10_000,
-            most: TEXT_LIMIT,
+            most: Some(TEXT_LIMIT),
         })
         .collect();
     texts::written(&all)

@@ -1,7 +1,9 @@
 //! Closing by its rule: rounds that take every figure from the old ones, in 64 bits, until one changes nothing or some least is above
-//! its ceiling.
+//! its ceiling. Those of a pair without ceilings are in `sums`.
 
-use crate::subject::{refused, LIMIT, LONGEST_HORIZON};
+use crate::pair::Pair;
+use crate::subject::{answered, refused, LEAST_LIMIT, LIMIT, LONGEST_HORIZON};
+use crate::sums;
 
 /// Two curves; entry d is the window of d ticks, and entry 0 is not used.
 #[derive(Clone, PartialEq)]
@@ -87,38 +89,56 @@ pub fn close(upper: &[u32], lower: &[u32]) -> Option<Stop> {
     Some(run(upper, lower)).filter(|stop| !stop.curves.crosses())
 }
 
+/// What question 4 asks of a figure: closing asks less of the leasts of a pair without ceilings, so that those of its closure are within
+/// the limit of a pair too.
+pub fn closing_limit(pair: &Pair) -> u32 {
+    if pair.unlimited() {
+        LEAST_LIMIT
+    } else {
+        LIMIT
+    }
+}
+
 /// Questions 1, 2 and 4, as an opening asks them; closing, with the lengths of its result lists, asks 3 before 4. 0 where all are
 /// answered well.
-pub fn opening(upper: &[u32], lower: &[u32], closed_lengths: Option<(usize, usize)>) -> u32 {
-    let horizon = upper.len();
+pub fn opening(pair: &Pair, closed_lengths: Option<(usize, usize)>) -> u32 {
+    let horizon = pair.horizon();
     if horizon < 1 || horizon > LONGEST_HORIZON {
         return 1;
     }
-    if lower.len() != horizon {
+    if pair.lower.len() != horizon {
         return 2;
     }
     if closed_lengths.is_some_and(|lengths| lengths.0 < horizon || lengths.1 < horizon) {
         return 3;
     }
-    if upper.iter().chain(lower).any(|&figure| figure > LIMIT) {
+    if pair.is_over(closed_lengths.map_or(LIMIT, |_| closing_limit(pair))) {
         return 4;
     }
     0
 }
 
-/// Closing as a whole: the questions, then the closure into the first entries of the result lists.
-pub fn close_into(upper: &[u32], lower: &[u32], closed_upper: &mut [u32], closed_lower: &mut [u32]) -> u64 {
-    let number = opening(upper, lower, Some((closed_upper.len(), closed_lower.len())));
+/// Closing as a whole: the questions, then the closure into the first entries of the result lists; without ceilings into one of them.
+pub fn close_into(pair: &Pair, closed_upper: &mut [u32], closed_lower: &mut [u32]) -> u64 {
+    let number = opening(pair, Some((closed_upper.len(), closed_lower.len())));
     if number != 0 {
         return refused(number);
     }
-    match close(upper, lower) {
+    let horizon = pair.horizon();
+    if pair.unlimited() {
+        let closed = sums::over_parts(&pair.lower);
+        closed_lower
+            .iter_mut()
+            .zip(&closed)
+            .for_each(|(entry, &least)| *entry = least as u32);
+        return answered(sums::run(&pair.lower).rounds, true);
+    }
+    match close(&pair.upper, &pair.lower) {
         None => refused(5),
         Some(closed) => {
-            let horizon = upper.len();
             closed_upper[..horizon].copy_from_slice(&narrowed(&closed.curves.upper));
             closed_lower[..horizon].copy_from_slice(&narrowed(&closed.curves.lower));
-            u64::from(closed.rounds)
+            answered(closed.rounds, false)
         }
     }
 }

@@ -2,18 +2,20 @@
 //! be answered, by the reference. No margin crosses the C boundary; here each is seen, while the held ticks fill up and once the oldest are
 //! let go.
 
-use crate::pairs::Pair;
+use crate::draws::draw;
+use crate::pair::Pair;
 use crate::reference::Reference;
-use crate::states::{answer_line, draw, is_judged};
+use crate::states::{answer_line, is_judged};
 use crate::streams::{margin, Margin};
 use crate::subject::{Subject, REFUSED};
 
-/// Case 0 is the README's example, the others are drawn.
-pub const CASES: u64 = 120;
+/// Case 0 is the README's example, the others are drawn. Those after the last with ceilings have none.
+pub const CASES: u64 = 160;
+const LIMITED_CASES: u64 = 120;
 const TICKS: u64 = 12;
 
 /// The example's line, worked out beforehand, so that the reference is held to something outside itself.
-const EXAMPLE: &str = "run 0 3 0 0 0 5 1 0 0 4 1 0 0 3 3 0 0 1 3 0 0 0 3 1 1 -6 3 3 0 0 0";
+const EXAMPLE: &str = "run 0 3 0 0 0 0 5 1 0 0 4 1 0 0 3 3 0 0 1 3 0 0 0 3 1 1 -6 3 3 0 0 0";
 
 /// A pair to open a monitor on, and the counts that it gets.
 pub struct Run {
@@ -46,6 +48,7 @@ pub fn drawn(case: u64) -> Run {
         pair: Pair {
             upper: list(horizon, 6_144, 4, 2, 9),
             lower: list(horizon, 7_168, 0, 1, 5),
+            mark: u32::from(case > LIMITED_CASES),
         },
         counts: list(TICKS, 14_336, 1, 0, 5),
     }
@@ -56,7 +59,7 @@ impl Run {
     /// each tick with 12.
     pub fn course(&self) -> Course {
         let mut answers = self.counts.clone();
-        let opening = Reference.judge(&self.pair.upper, &self.pair.lower, &mut answers);
+        let opening = Reference.judge(&self.pair.upper, &self.pair.lower, self.pair.mark, &mut answers);
         if opening != 0 {
             answers.fill(REFUSED + 12);
         }
@@ -73,7 +76,8 @@ pub fn line(case: u64) -> String {
     let run = drawn(case);
     let Course { opening, ticks } = run.course();
     let answers: Vec<String> = ticks.iter().map(|&(answer, margin)| answer_line(answer, margin)).collect();
-    format!("run {case} {} {opening} {}", run.pair.horizon(), answers.join(" "))
+    let Pair { upper, mark, .. } = &run.pair;
+    format!("run {case} {} {mark} {opening} {}", upper.len(), answers.join(" "))
 }
 
 /// The example by the reference.

@@ -1,14 +1,15 @@
 //! Pairs to open on, with streams of counts and lists of choices for them.
 
-use crate::pairs::{self, Pair};
+use crate::pair::{closed, Pair};
+use crate::pairs;
 use crate::random::Rng;
 use crate::streams::{chosen, range, sent};
 use crate::subject::{LIMIT, LONGEST_HORIZON, NO_COUNT};
 
-const LONGEST_SCRIPT: usize = 600;
+pub const LONGEST_SCRIPT: usize = 600;
 
 /// Short mostly.
-fn horizon(rng: &mut Rng) -> usize {
+pub fn horizon(rng: &mut Rng) -> usize {
     match rng.below(100) {
         0..=1 => pairs::long_horizon(rng),
         2..=5 => rng.length(13, 64),
@@ -24,7 +25,7 @@ fn pair(rng: &mut Rng) -> Pair {
         1 => pairs::lasting(rng, horizon),
         _ => {
             let pair = pairs::lasting(rng, horizon);
-            pairs::closed(&pair)
+            closed(&pair)
         }
     }
 }
@@ -46,7 +47,7 @@ pub fn spoil(rng: &mut Rng, pair: &mut Pair) {
     }
 }
 
-fn choices(rng: &mut Rng, length: usize) -> Vec<u32> {
+pub fn choices(rng: &mut Rng, length: usize) -> Vec<u32> {
     let end = rng.pick(&[1, 2, 3, 10, u32::MAX]);
     (0..length)
         .map(|_| if rng.one_in(30) { u32::MAX - rng.below(2) } else { rng.below(end) })
@@ -56,7 +57,7 @@ fn choices(rng: &mut Rng, length: usize) -> Vec<u32> {
 /// Counts that keep the pair for as long as it can be kept, then anything.
 fn kept_counts(rng: &mut Rng, pair: &Pair, length: usize) -> Vec<u32> {
     let list = choices(rng, length);
-    let mut counts = sent(&pair.upper, &pair.lower, &list);
+    let mut counts = sent(pair, &list);
     for count in counts.iter_mut().filter(|count| **count == NO_COUNT) {
         *count = rng.below(5);
     }
@@ -73,7 +74,8 @@ fn off(rng: &mut Rng, count: u32) -> u32 {
     }
 }
 
-fn counts(rng: &mut Rng, pair: &Pair, length: usize) -> Vec<u32> {
+/// Such counts, a few of them off; or any.
+pub fn counts(rng: &mut Rng, pair: &Pair, length: usize) -> Vec<u32> {
     if rng.one_in(8) {
         let end = rng.pick(&[2, 4, 20, u32::MAX]);
         return (0..length).map(|_| rng.below(end)).collect();
@@ -158,11 +160,11 @@ fn stray(rng: &mut Rng, given: (u32, u32), closed: (u32, u32)) -> Option<u32> {
 
 /// The counts of a course. What follows the tick at which it strays is not judged any more, whatever it is.
 fn straying(rng: &mut Rng, pair: &Pair, course: &Course) -> Vec<u32> {
-    let closed = pairs::closed(pair);
+    let closed = closed(pair);
     let mut counts = Vec::new();
-    while let Some((lo, hi)) = range(&closed.upper, &closed.lower, &counts) {
+    while let Some((lo, hi)) = range(&closed, &counts) {
         let may_stray = counts.len() >= course.start;
-        let given = range(&pair.upper, &pair.lower, &counts).filter(|_| may_stray);
+        let given = range(pair, &counts).filter(|_| may_stray);
         let strayed = given.and_then(|given| stray(rng, given, (lo, hi)));
         let lean = if counts.len() < course.burst_ticks {
             course.burst
@@ -233,7 +235,7 @@ fn generator_window(rng: &mut Rng) -> (Pair, Vec<u32>) {
     }
     let end = rng.pick(&[2, 3, 7]);
     let script = counts.iter().map(|_| rng.below(end)).collect();
-    (pairs::closed(&pair), script)
+    (closed(&pair), script)
 }
 
 /// A pair and choices for a generator on it.

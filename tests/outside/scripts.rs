@@ -1,6 +1,6 @@
 //! Scripts: streams of counts through a monitor, and what they share with lists of choices through a generator (`sendings`).
 
-use crate::pairs::{closed, Pair};
+use crate::pair::{closed, Pair};
 use crate::paths;
 use crate::random::Rng;
 use crate::reference::Reference;
@@ -13,17 +13,21 @@ use crate::tally::{LOST_BETWEEN, LOST_BY, LOST_FIRST, LOST_LAST, LOST_WINDOW};
 /// Entries on either side of a script, which no call may touch.
 const MARGIN: usize = 4;
 
-type Operation = fn(&dyn Subject, &[u32], &[u32], &mut [u32]) -> u32;
+type Operation = fn(&dyn Subject, &Pair, &mut [u32]) -> u32;
 
-fn judge(subject: &dyn Subject, upper: &[u32], lower: &[u32], script: &mut [u32]) -> u32 {
-    subject.judge(upper, lower, script)
+pub fn judge(subject: &dyn Subject, pair: &Pair, script: &mut [u32]) -> u32 {
+    subject.judge(&pair.upper, &pair.lower, pair.mark, script)
+}
+
+pub fn generate(subject: &dyn Subject, pair: &Pair, script: &mut [u32]) -> u32 {
+    subject.generate(&pair.upper, &pair.lower, pair.mark, script)
 }
 
 fn put_to(subject: &dyn Subject, operation: Operation, pair: &Pair, script: &[u32]) -> (u32, Vec<u32>) {
     let mut list = vec![77; script.len() + 2 * MARGIN];
     let end = MARGIN + script.len();
     list[MARGIN..end].copy_from_slice(script);
-    let number = operation(subject, &pair.upper, &pair.lower, &mut list[MARGIN..end]);
+    let number = operation(subject, pair, &mut list[MARGIN..end]);
     (number, list)
 }
 
@@ -34,7 +38,7 @@ pub fn check(subject: &dyn Subject, name: &str, operation: Operation, pair: &Pai
     if came == expected {
         return Ok((expected.0, expected.1[MARGIN..MARGIN + script.len()].to_vec()));
     }
-    let input = format!("{name}\n  upper {:?}\n  lower {:?}\n  script {script:?}", pair.upper, pair.lower);
+    let input = format!("{name}\n{}\n  script {script:?}", pair.shown());
     let lists = format!("expected {} {:?}\ncame {} {:?}", expected.0, expected.1, came.0, came.1);
     Err(format!(
         "{input}\n{lists}\n(scripts are shown with the {MARGIN} entries before and after them)"
@@ -55,7 +59,7 @@ fn note_verdicts(list: &[u32], tally: &mut Tally) {
 
 /// What the closed figures say of a rejected tick: the only ones that it breaks, or in a shorter window than those as given.
 fn note_rejected(pair: &Pair, closed: &Pair, stream: &[u32], found: u32, tally: &mut Tally) {
-    let by_closed = verdict(&closed.upper, &closed.lower, stream);
+    let by_closed = verdict(closed, stream);
     if found != LOST {
         tally.note(REJECTED, u32::from(by_closed != found));
         return;
@@ -77,21 +81,19 @@ fn check_start(pair: &Pair, counts: &[u32], verdicts: &[u32]) -> Result<(), Stri
     let passed = verdicts.iter().take_while(|&&verdict| verdict == PASSED).count();
     let rest_failed = verdicts.iter().skip(passed + 1).all(|&verdict| verdict == ALREADY_FAILED);
     let lost = verdicts.get(passed) == Some(&LOST);
-    let keeps = |upper: &[u32], lower: &[u32], ticks: usize| ticks <= counts.len() && conforms(upper, lower, &counts[..ticks]);
+    let keeps = |pair: &Pair, ticks: usize| ticks <= counts.len() && conforms(pair, &counts[..ticks]);
     let longest = paths::close(&pair.upper, &pair.lower)
-        .is_some_and(|(upper, lower)| keeps(&upper, &lower, passed) && !keeps(&upper, &lower, passed + 1));
-    let next_keeps = keeps(&pair.upper, &pair.lower, passed + 1);
+        .map(|(upper, lower)| Pair::new(&upper, &lower))
+        .is_some_and(|closed| keeps(&closed, passed) && !keeps(&closed, passed + 1));
+    let next_keeps = keeps(pair, passed + 1);
     if longest && next_keeps == lost && (!lost || passed + 1 < pair.horizon()) && rest_failed {
         return Ok(());
     }
-    Err(format!(
-        "the verdicts and conformance disagree on\n  {:?}\n  {:?}\n  {counts:?}",
-        pair.upper, pair.lower
-    ))
+    Err(format!("the verdicts and conformance disagree on\n{}\n  {counts:?}", pair.shown()))
 }
 
 /// A monitor on the closure rejects the same tick, and never as lost.
-fn check_on_closure(subject: &dyn Subject, closed: &Pair, counts: &[u32], verdicts: &[u32]) -> Result<(), String> {
+pub fn check_on_closure(subject: &dyn Subject, closed: &Pair, counts: &[u32], verdicts: &[u32]) -> Result<(), String> {
     let (number, on_closure) = check(subject, "judge", judge, closed, counts)?;
     let same_tick = on_closure
         .iter()
@@ -101,8 +103,8 @@ fn check_on_closure(subject: &dyn Subject, closed: &Pair, counts: &[u32], verdic
         return Ok(());
     }
     Err(format!(
-        "a monitor on the closure\n  {:?}\n  {:?}\ngiven {counts:?}\nanswers {on_closure:?}, on the pair {verdicts:?}",
-        closed.upper, closed.lower
+        "a monitor on the closure\n{}\ngiven {counts:?}\nanswers {on_closure:?}, on the pair {verdicts:?}",
+        closed.shown()
     ))
 }
 
@@ -120,7 +122,7 @@ pub fn spoil_sometimes(rng: &mut Rng, pair: &mut Pair) {
 }
 
 /// Which of the questions 1, 2 and 4 of an opening, and of its last one, have the answer no, each asked by itself.
-pub fn note_faults(pair: &Pair, last: (u32, bool), tally: &mut Tally) {
+pub fn note_faults(kind: &'static str, pair: &Pair, last: (u32, bool), tally: &mut Tally) {
     let asked = [
         (1, pair.upper.is_empty() || pair.upper.len() > LONGEST_HORIZON),
         (2, pair.lower.len() != pair.upper.len()),
@@ -129,14 +131,14 @@ pub fn note_faults(pair: &Pair, last: (u32, bool), tally: &mut Tally) {
     ];
     let mut faults = asked.iter().filter(|question| question.1).map(|question| question.0);
     if let Some(first) = faults.next() {
-        faults.for_each(|other| tally.note(OPENING, 100 * first + other));
+        faults.for_each(|other| tally.note(kind, 100 * first + other));
     }
 }
 
 pub fn compare_monitor(subject: &dyn Subject, rng: &mut Rng, tally: &mut Tally) -> Result<(), String> {
     let (mut pair, script) = for_monitor(rng);
     spoil_sometimes(rng, &mut pair);
-    note_faults(&pair, (5, pair.crosses()), tally);
+    note_faults(OPENING, &pair, (5, pair.crosses()), tally);
     let (number, verdicts) = check(subject, "judge", judge, &pair, &script)?;
     tally.note(MONITOR, number);
     if number != 0 {

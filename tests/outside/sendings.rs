@@ -1,37 +1,29 @@
 //! Scripts of choices through a generator: on which pairs it opens, and what is true of all that it sends.
 
 use crate::extensions::Extensions;
-use crate::pairs::Pair;
+use crate::pair::Pair;
 use crate::paths;
 use crate::random::Rng;
 use crate::rounds;
 use crate::script_cases::for_generator;
-use crate::scripts::{check, note_faults, spoil_sometimes};
+use crate::scripts::{check, generate, note_faults, spoil_sometimes};
 use crate::streams::conforms;
 use crate::subject::{Subject, LIMIT, PASSED, REFUSED};
-use crate::tally::{horizon_end, Tally, AT_LIMIT, GENERATOR, LO, LOOSE_LOWER, LOOSE_UPPER, NOT_OWN, NOT_OWN_ROUNDS, SENT};
+use crate::tally::{horizon_end, Tally, AT_LIMIT, GENERATOR, LO, LOOSE_LOWER, LOOSE_UPPER, NOT_OWN, NOT_OWN_ROUNDS, OPENING, SENT};
 
 /// A search over the pasts of a pair tries no more counts than this, all in all.
 const MOST_TRIED: u64 = 1_000;
 
-fn generate(subject: &dyn Subject, upper: &[u32], lower: &[u32], script: &mut [u32]) -> u32 {
-    subject.generate(upper, lower, script)
-}
-
-fn shown(pair: &Pair) -> String {
-    format!("  {:?}\n  {:?}", pair.upper, pair.lower)
-}
-
 /// A generator opens exactly on the pairs that closing gives back after no round.
 fn check_given_back(subject: &dyn Subject, pair: &Pair, opens: bool) -> Result<(), String> {
-    let mut closed = Pair::new(&vec![u32::MAX; pair.horizon()], &vec![u32::MAX; pair.horizon()]);
-    let answer = subject.close(&pair.upper, &pair.lower, &mut closed.upper, &mut closed.lower);
+    let mut closed = Pair::filled(pair.horizon(), u32::MAX, u32::MAX);
+    let answer = subject.close(&pair.upper, &pair.lower, pair.mark, &mut closed.upper, &mut closed.lower);
     if (answer == 0 && closed == *pair) == opens {
         return Ok(());
     }
     Err(format!(
         "a generator opens: {opens}; but closing answers {answer} on\n{}",
-        shown(pair)
+        pair.shown()
     ))
 }
 
@@ -43,15 +35,15 @@ fn check_own_closure(pair: &Pair, own: bool) -> Result<(), String> {
     if by_parts && (pair.horizon() > 12 || paths::close(&pair.upper, &pair.lower).is_some_and(found) == own) {
         return Ok(());
     }
-    Err(format!("its own closure: {own}, by the rounds alone, is\n{}", shown(pair)))
+    Err(format!("its own closure: {own}, by the rounds alone, is\n{}", pair.shown()))
 }
 
 /// No entry is refused, and what is sent keeps the pair, by the sum of every window.
-fn check_sent(pair: &Pair, list: &[u32]) -> Result<(), String> {
-    if list.iter().all(|&count| count < REFUSED) && (pair.horizon() > 12 || conforms(&pair.upper, &pair.lower, list)) {
+pub fn check_sent(pair: &Pair, list: &[u32]) -> Result<(), String> {
+    if list.iter().all(|&count| count < REFUSED) && (pair.horizon() > 12 || conforms(pair, list)) {
         return Ok(());
     }
-    Err(format!("what is sent is refused or does not conform\n{}\n  {list:?}", shown(pair)))
+    Err(format!("what is sent is refused or does not conform\n{}\n  {list:?}", pair.shown()))
 }
 
 /// What is sent begins an unbounded conforming stream, by a search where that is short.
@@ -60,24 +52,24 @@ fn check_extendable(pair: &Pair, list: &[u32]) -> Result<(), String> {
     if tried > MOST_TRIED || Extensions::new(pair).is_extendable(list) {
         return Ok(());
     }
-    Err(format!("what is sent is not extendable\n{}\n  {list:?}", shown(pair)))
+    Err(format!("what is sent is not extendable\n{}\n  {list:?}", pair.shown()))
 }
 
 /// A monitor on the same pair passes all that is sent.
-fn check_passed(subject: &dyn Subject, pair: &Pair, list: &[u32]) -> Result<(), String> {
+pub fn check_passed(subject: &dyn Subject, pair: &Pair, list: &[u32]) -> Result<(), String> {
     let mut verdicts = list.to_vec();
-    let number = subject.judge(&pair.upper, &pair.lower, &mut verdicts);
+    let number = subject.judge(&pair.upper, &pair.lower, pair.mark, &mut verdicts);
     if number == 0 && verdicts.iter().all(|&verdict| verdict == PASSED) {
         return Ok(());
     }
     Err(format!(
         "a monitor on\n{}\nanswers {number} {verdicts:?} to what a generator sent\n  {list:?}",
-        shown(pair)
+        pair.shown()
     ))
 }
 
 /// Which window settled the smallest count that could be sent last, 0 where none did.
-fn lo_window(pair: &Pair, stream: &[u32]) -> u32 {
+pub fn lo_window(pair: &Pair, stream: &[u32]) -> u32 {
     let before = |window: usize| {
         stream[stream.len() + 1 - window..]
             .iter()
@@ -137,7 +129,7 @@ fn check_asked(subject: &dyn Subject, pair: &Pair, number: u32, tally: &mut Tall
 pub fn compare(subject: &dyn Subject, rng: &mut Rng, tally: &mut Tally) -> Result<(), String> {
     let (mut pair, script) = for_generator(rng);
     spoil_sometimes(rng, &mut pair);
-    note_faults(&pair, (15, !common_parts_kept(&pair)), tally);
+    note_faults(OPENING, &pair, (15, !common_parts_kept(&pair)), tally);
     let (number, list) = check(subject, "generate", generate, &pair, &script)?;
     tally.note(GENERATOR, number);
     match number {

@@ -1,59 +1,22 @@
 //! States built by hand, drawn as the program `limits` draws them, and what a tick on each must come to, by the reference. Anything may
-//! stand in a state: sizes and figures that are refused, and closed figures that have nothing to do with those as given.
+//! stand in a state: sizes and figures that are refused, and closed figures that have nothing to do with those as given. The last of them
+//! have no ceilings, and what stands in their place, and in that of the closed figures, is mostly above the limit.
 
-use crate::pairs::Pair;
+use crate::draws::{draw, draw_count, draw_counts, draw_odd, draw_size};
+use crate::pair::Pair;
 use crate::streams::{chosen, margin, range, ruling, Margin};
-use crate::subject::{ALREADY_FAILED, LIMIT, LONGEST_HORIZON, NO_COUNT, PASSED, REFUSED};
+use crate::subject::{ALREADY_FAILED, LONGEST_HORIZON, NO_COUNT, PASSED, REFUSED};
 
-pub const CASES: u64 = 400;
-
-fn scramble(x: u64) -> u64 {
-    let a = x ^ (x << 13);
-    let b = a ^ (a >> 7);
-    b ^ (b << 17)
-}
-
-/// The k-th number of a case, below `end`.
-pub fn draw(case: u64, k: u64, end: u64) -> u64 {
-    scramble(scramble(scramble(case ^ (k << 20) ^ 88_172_645_463_325_252))) % end
-}
-
-/// One of `times` states has figures at the limit and above it among the others, the rest hardly any.
-fn draw_odd(case: u64, k: u64, times: u64) -> u64 {
-    if draw(case, k, times) == 0 {
-        24
-    } else {
-        1_000_000
-    }
-}
-
-fn draw_count(case: u64, k: u64, odd: u64, end: u64) -> u32 {
-    match draw(case, k, odd) {
-        0 => LIMIT,
-        1 => LIMIT + 1,
-        2 => u32::MAX,
-        _ => draw(case, k ^ 8_192, end) as u32,
-    }
-}
-
-fn draw_counts(case: u64, k: u64, odd: u64, end: u64) -> Vec<u32> {
-    (0..LONGEST_HORIZON as u64).map(|i| draw_count(case, k ^ i, odd, end)).collect()
-}
-
-fn draw_size(case: u64, k: u64, end: u64) -> u64 {
-    match draw(case, k, 24) {
-        0 => LONGEST_HORIZON as u64,
-        1 => LONGEST_HORIZON as u64 + 1,
-        2 => u64::MAX,
-        _ => draw(case, k ^ 1, end),
-    }
-}
+pub const CASES: u64 = 600;
+/// The states after this one have no ceilings.
+const LIMITED_CASES: u64 = 400;
 
 /// Each list has 256 entries, whatever the horizon is.
 pub struct State {
     horizon: u64,
     held: u64,
     pub failed: bool,
+    /// With the mark of the state.
     given: Pair,
     closed: Pair,
     ticks: Vec<u32>,
@@ -61,19 +24,21 @@ pub struct State {
 
 /// A state and the count, or the choice, that it gets.
 pub fn drawn(case: u64) -> (State, u32) {
-    let (odd, closed_odd) = (draw_odd(case, 3, 4), draw_odd(case, 12, 8));
+    let limited = case <= LIMITED_CASES;
+    let closed_odd = draw_odd(case, 12, 8, limited);
     let state = State {
         horizon: draw_size(case, 4, 11),
         held: draw_size(case, 6, 1 + draw(case, 8, 10)),
         failed: draw(case, 1, 4) == 0,
         given: Pair {
-            upper: draw_counts(case, 1_024, odd, 1 + draw(case, 9, 90)),
-            lower: draw_counts(case, 2_048, odd, 1 + draw(case, 10, 9)),
+            upper: draw_counts(case, 1_024, draw_odd(case, 3, 4, limited), 1 + draw(case, 9, 90)),
+            lower: draw_counts(case, 2_048, draw_odd(case, 3, 4, true), 1 + draw(case, 10, 9)),
+            mark: u32::from(!limited),
         },
-        closed: Pair {
-            upper: draw_counts(case, 4_096, closed_odd, 1 + draw(case, 13, 90)),
-            lower: draw_counts(case, 5_120, closed_odd, 1 + draw(case, 14, 9)),
-        },
+        closed: Pair::new(
+            &draw_counts(case, 4_096, closed_odd, 1 + draw(case, 13, 90)),
+            &draw_counts(case, 5_120, closed_odd, 1 + draw(case, 14, 9)),
+        ),
         ticks: draw_counts(case, 3_072, 24, 1 + draw(case, 11, 6)),
     };
     (state, draw_count(case, 2, 12, 4))
@@ -94,14 +59,15 @@ pub fn stuck() -> State {
 }
 
 /// As many ticks as a monitor can hold, each with the largest count, over ceilings of 0. With one more of them no sum is larger, and no
-/// margin smaller.
-pub fn full() -> State {
-    let none = Pair::new(&[0; LONGEST_HORIZON], &[0; LONGEST_HORIZON]);
+/// margin smaller; without ceilings one more passes.
+pub fn full(unlimited: bool) -> State {
+    let none = Pair::filled(LONGEST_HORIZON, 0, 0);
+    let mark = u32::from(unlimited);
     State {
         horizon: LONGEST_HORIZON as u64,
         held: LONGEST_HORIZON as u64 - 1,
         failed: false,
-        given: none.clone(),
+        given: Pair { mark, ..none.clone() },
         closed: none,
         ticks: vec![u32::MAX; LONGEST_HORIZON],
     }
@@ -114,7 +80,9 @@ pub struct Judged {
     pub answer: u32,
     pub margin: Margin,
     pub failed: bool,
-    /// The ticks that are held then, or nothing where the state comes back as it was, but for the mark.
+    /// Whether the state that comes back has no ceilings.
+    pub unlimited: bool,
+    /// The ticks that are held then, or nothing where the state comes back as it was, but for its having failed.
     pub held: Option<Vec<u32>>,
 }
 
@@ -122,6 +90,7 @@ pub struct Judged {
 #[derive(PartialEq)]
 pub struct Sent {
     pub answer: u32,
+    pub unlimited: bool,
     pub held: Option<Vec<u32>>,
 }
 
@@ -171,9 +140,18 @@ impl State {
         self.up_to_horizon(&self.closed)
     }
 
+    pub fn unlimited(&self) -> bool {
+        self.given.unlimited()
+    }
+
     fn up_to_horizon(&self, pair: &Pair) -> Pair {
         let horizon = self.horizon as usize;
-        Pair::new(&pair.upper[..horizon], &pair.lower[..horizon])
+        Pair::marked(&pair.upper[..horizon], &pair.lower[..horizon], pair.mark)
+    }
+
+    /// What question 12 asks of the figures: of the closed ones too, where there are ceilings.
+    fn over_limit(&self) -> bool {
+        self.given().over_limit() || (!self.unlimited() && self.closed().over_limit())
     }
 
     pub fn stream(&self) -> &[u32] {
@@ -195,9 +173,10 @@ impl State {
             answer,
             margin: Margin::default(),
             failed: self.failed,
+            unlimited: self.unlimited(),
             held: None,
         };
-        if !self.has_sizes() || self.given().over_limit() || self.closed().over_limit() {
+        if !self.has_sizes() || self.over_limit() {
             return unjudged(REFUSED + 12);
         }
         if self.failed {
@@ -209,24 +188,35 @@ impl State {
             answer,
             margin: margin(&given, &stream),
             failed: answer != PASSED,
+            unlimited: self.unlimited(),
             held: (answer == PASSED).then(|| self.held_with(count)),
         }
+    }
+
+    /// What a view has of a state's ceilings, or of its closed figures: nothing where there are no ceilings.
+    fn viewed(&self, figures: &[u32]) -> Vec<u32> {
+        let shown = if self.unlimited() { 0 } else { self.horizon as usize };
+        figures[..shown].to_vec()
     }
 
     /// The history that comes back: what a view has of it where a tick was added, else every entry.
     fn history_line(&self, held: Option<Vec<u32>>) -> String {
         let (pair, length, ticks) = match held {
-            Some(held) => (self.given(), held.len() as u64, held),
+            Some(held) => {
+                let pair = Pair::new(&self.viewed(&self.given.upper), &self.given().lower);
+                (pair, held.len() as u64, held)
+            }
             None => (self.given.clone(), self.held, self.ticks.clone()),
         };
-        format!("{} {length} {} {}", self.horizon, digests(&pair), digest(&ticks))
+        let mark = self.given.mark;
+        format!("{} {length} {mark} {} {}", self.horizon, digests(&pair), digest(&ticks))
     }
 
-    /// What is answered, the mark, the history, and the closed figures.
+    /// What is answered, whether it has failed then, the history, and the closed figures.
     pub fn judged_line(&self, count: u32) -> String {
         let judged = self.judged(count);
         let closed = if judged.held.is_some() {
-            self.closed()
+            Pair::new(&self.viewed(&self.closed.upper), &self.viewed(&self.closed.lower))
         } else {
             self.closed.clone()
         };
@@ -236,25 +226,30 @@ impl State {
     }
 
     fn range(&self) -> Option<(u32, u32)> {
-        range(&self.given().upper, &self.given().lower, self.stream())
+        range(&self.given(), self.stream())
     }
 
     /// A generator on the same history. It has no closed figures.
     pub fn sent(&self, choice: u32) -> Sent {
-        let refused = |answer: u32| Sent { answer, held: None };
+        let unlimited = self.unlimited();
+        let refused = |answer: u32| Sent {
+            answer,
+            unlimited,
+            held: None,
+        };
         if !self.has_sizes() || self.given().over_limit() {
             return refused(REFUSED + 12);
         }
         self.range().map_or(refused(NO_COUNT), |(lo, hi)| {
             let answer = chosen(lo, hi, choice);
             let held = Some(self.held_with(answer));
-            Sent { answer, held }
+            Sent { answer, unlimited, held }
         })
     }
 
     /// Lo and hi, what is sent, and the history. A look is refused with the same number as a tick.
     pub fn sent_line(&self, choice: u32) -> String {
-        let Sent { answer, held } = self.sent(choice);
+        let Sent { answer, held, .. } = self.sent(choice);
         let history = self.history_line(held);
         if answer >= REFUSED {
             let number = answer - REFUSED;

@@ -2,6 +2,8 @@
 
 /// The greatest figure of a pair.
 pub const LIMIT: u32 = 16_776_960;
+/// The greatest least of a pair without ceilings that is to be closed.
+pub const LEAST_LIMIT: u32 = 65_535;
 /// The greatest horizon.
 pub const LONGEST_HORIZON: usize = 256;
 /// The greatest length of a text, in bytes.
@@ -13,6 +15,9 @@ pub const TEXT_LIMIT: u32 = 65_535;
 /// The first line of a text and of a report.
 pub const HEADER: &[u8] = b"window,least,most";
 
+/// The bit of an answer that says that the pair has no ceilings. What is below it is the value.
+pub const UNLIMITED: u64 = 65_536;
+
 /// Entries of scripts: verdicts, and a refusal in the place of a count.
 pub const PASSED: u32 = 0;
 pub const TOO_MANY: u32 = 1_000;
@@ -23,17 +28,24 @@ pub const REFUSED: u32 = 4_000_000_000;
 /// What stands for a count where there is none that could be sent.
 pub const NO_COUNT: u32 = REFUSED + 13;
 
+/// A pair is its ceilings, its leasts and its mark: any number but 0 says that there are no ceilings, and that the first list gives the
+/// horizon and nothing else.
 pub trait Subject: Sync {
-    fn close(&self, upper: &[u32], lower: &[u32], closed_upper: &mut [u32], closed_lower: &mut [u32]) -> u64;
+    fn close(&self, upper: &[u32], lower: &[u32], mark: u32, closed_upper: &mut [u32], closed_lower: &mut [u32]) -> u64;
     fn read(&self, text: &[u8], upper: &mut [u32], lower: &mut [u32]) -> u64;
     fn report(&self, text: &[u8], output: &mut [u8]) -> usize;
-    fn judge(&self, upper: &[u32], lower: &[u32], script: &mut [u32]) -> u32;
-    fn generate(&self, upper: &[u32], lower: &[u32], script: &mut [u32]) -> u32;
+    fn judge(&self, upper: &[u32], lower: &[u32], mark: u32, script: &mut [u32]) -> u32;
+    fn generate(&self, upper: &[u32], lower: &[u32], mark: u32, script: &mut [u32]) -> u32;
 }
 
 /// The answer of a refused closing or reading.
 pub fn refused(number: u32) -> u64 {
     u64::from(number) << 32
+}
+
+/// The answer of any other.
+pub fn answered(value: u32, unlimited: bool) -> u64 {
+    u64::from(value) + if unlimited { UNLIMITED } else { 0 }
 }
 
 /// The refusal's number in an answer, 0 where there is none.
@@ -43,10 +55,16 @@ pub fn refusal_of(answer: u64) -> u32 {
 
 /// The value in an answer: the count of rounds, or the horizon.
 pub fn value_of(answer: u64) -> u32 {
-    answer as u32
+    (answer % UNLIMITED) as u32
+}
+
+/// The mark in an answer, as a number that a call takes.
+pub fn mark_of(answer: u64) -> u32 {
+    u32::from(answer & UNLIMITED != 0)
 }
 
 /// An answer, as it is shown when it differs.
 pub fn shown(answer: u64) -> String {
-    format!("refusal {} value {}", refusal_of(answer), value_of(answer))
+    let rest = answer as u32 as u64 / UNLIMITED;
+    format!("refusal {} value {} above it {rest}", refusal_of(answer), value_of(answer))
 }

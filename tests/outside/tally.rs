@@ -14,6 +14,34 @@ pub const READING: &str = "reading refused with";
 pub const HORIZON: &str = "reading gave a pair, horizon";
 pub const FIRST_FAULT: &str = "reading, the first fault and another later";
 pub const ONE_RECORD: &str = "reading, two faults in one record";
+pub const MOSTS: &str = "a text's records have a most (0 none, 1 some, 2 all)";
+pub const UNLIMITED_HORIZON: &str = "reading gave a pair without ceilings, horizon";
+pub const UNLIMITED_READING: &str = "reading records without a most refused with";
+pub const UNLIMITED_REPORT: &str = "report of records without a most (0: curves)";
+pub const PROGRAM_MOSTS: &str = "program, records have a most (0 none, 1 some, 2 all)";
+pub const UNLIMITED_CLOSING: &str = "closing without ceilings refused with";
+pub const UNLIMITED_ROUNDS: &str = "closing without ceilings, rounds";
+pub const UNLIMITED_FAULTS: &str = "closing without ceilings, two faults, both numbers";
+pub const UNLIMITED_AT: &str = "closing without ceilings, largest least at a limit";
+pub const UNLIMITED_CEILINGS: &str = "in their place (10 above the limit, 1 below leasts)";
+pub const UNLIMITED_AGAIN: &str = "closing a closure without ceilings (0, or 4)";
+pub const UNLIMITED_MONITOR: &str = "opening a monitor without ceilings (0: opened)";
+pub const UNLIMITED_VERDICT: &str = "verdicts without ceilings (0 passed, 2 few, 3 failed)";
+pub const UNLIMITED_FEW: &str = "too few without ceilings, window";
+pub const UNLIMITED_OVER: &str = "a count above 16,776,960 without ceilings (0 passed)";
+pub const UNLIMITED_ON_CLOSURE: &str = "a monitor on the closure (0: opened, 4: over)";
+pub const UNLIMITED_GENERATOR: &str = "opening a generator without ceilings (0: opened)";
+pub const UNLIMITED_OPENING: &str = "opening without ceilings, two faults";
+pub const UNLIMITED_OPEN_AT: &str = "opening without ceilings, largest least at a limit";
+pub const UNLIMITED_SENT: &str = "sent without ceilings (0: lo, 1: hi, 2: between)";
+pub const UNLIMITED_LO: &str = "without ceilings, the window that settled lo";
+pub const UNLIMITED_BUILT: &str = "states without ceilings (0, 2, 3 verdicts, 12 refused)";
+pub const UNLIMITED_BUILT_SENT: &str = "generators without ceilings by hand (0 sent, 12)";
+pub const UNLIMITED_NO_EFFECT: &str = "no effect (0 limit, 1 verdict; 2, 3 the same, closed)";
+pub const UNLIMITED_LARGEST: &str = "without ceilings, the largest count held (0 passed)";
+pub const UNLIMITED_MARGIN: &str = "margins without ceilings (0 negative, 1 zero, 2 more)";
+pub const UNLIMITED_RUN: &str = "runs without ceilings (0 opened)";
+pub const UNLIMITED_RUN_TICK: &str = "ticks of runs without ceilings (verdicts)";
 pub const SHORT: &str = "reading into an empty list refused with";
 pub const REPORT: &str = "report refused with (0: curves)";
 pub const ROOM: &str = "report into a list (0 short, 1 exact, 2 longer)";
@@ -129,6 +157,35 @@ const DUE: &[(&str, &[u32])] = &[
     (START, &[0, 1]),
     (JUDGED, &[0, 1, 2, 4]),
     (EQUAL, &[0, 1]),
+    (MOSTS, &[0, 1, 2]),
+    (PROGRAM_MOSTS, &[0, 1, 2]),
+    (UNLIMITED_HORIZON, &[1, 2, 3, 255, 256]),
+    // The records have no fault, so there is nothing left to refuse but short lists; and no text of them is without a closure.
+    (UNLIMITED_READING, &[11]),
+    (UNLIMITED_REPORT, &[0]),
+    (UNLIMITED_CLOSING, &[1, 2, 3, 4]),
+    (UNLIMITED_ROUNDS, &[0, 1, 2, 3, 4, 5, 6, 7, 8]),
+    (UNLIMITED_FAULTS, &[12, 13, 14, 23, 24, 34]),
+    (UNLIMITED_AT, &[65_535, 65_536, 16_776_960, 16_776_961]),
+    (UNLIMITED_CEILINGS, &[0, 1, 10, 11]),
+    (UNLIMITED_AGAIN, &[0, 4]),
+    (UNLIMITED_MONITOR, &[0, 1, 2, 4]),
+    (UNLIMITED_VERDICT, &[0, 2, 3]),
+    (UNLIMITED_FEW, SOME_WINDOWS),
+    (UNLIMITED_OVER, &[0]),
+    (UNLIMITED_ON_CLOSURE, &[0, 4]),
+    (UNLIMITED_GENERATOR, &[0, 1, 2, 4, 15]),
+    (UNLIMITED_OPENING, &[102, 104, 115, 204, 215, 415]),
+    (UNLIMITED_OPEN_AT, &[65_535, 65_536, 16_776_960, 16_776_961]),
+    (UNLIMITED_SENT, &[0, 1, 2]),
+    (UNLIMITED_LO, &[0, 1, 2, 3, 8, 256]),
+    (UNLIMITED_BUILT, &[0, 2, 3, 12]),
+    (UNLIMITED_BUILT_SENT, &[0, 12]),
+    (UNLIMITED_NO_EFFECT, &[0, 1, 2, 3]),
+    (UNLIMITED_LARGEST, &[0]),
+    (UNLIMITED_MARGIN, &[0, 1, 2]),
+    (UNLIMITED_RUN, &[0]),
+    (UNLIMITED_RUN_TICK, &[0, 2, 3]),
 ];
 
 impl Tally {

@@ -1,12 +1,12 @@
 //! Constraint texts by cutting: the text into lines at CR LF, a line into fields at commas.
 
-use crate::rounds;
-use crate::subject::{refusal_of, refused, HEADER, LONGEST_HORIZON, LONGEST_TEXT, TEXT_LIMIT};
+use crate::pair::{closure, Pair};
+use crate::subject::{answered, refused, HEADER, LONGEST_HORIZON, LONGEST_TEXT, TEXT_LIMIT};
 
 struct Record {
     window: u32,
     least: u32,
-    most: u32,
+    most: Option<u32>,
 }
 
 /// The parts between the places where CR LF stands; one part more than there are such places.
@@ -40,8 +40,11 @@ fn number(field: &[u8]) -> Option<u32> {
 
 /// Which of the questions 7, 8 and 9 a line has the answer no to, each asked by itself. `named` has the windows named before.
 fn faults(line: &[u8], named: &[u32]) -> Vec<u32> {
-    let fields: Vec<Option<u32>> = line.split(|&byte| byte == b',').map(number).collect();
-    let ill_formed = fields.len() != 3 || fields.contains(&None);
+    let parts: Vec<&[u8]> = line.split(|&byte| byte == b',').collect();
+    let fields: Vec<Option<u32>> = parts.iter().map(|part| number(part)).collect();
+    let no_most = parts.len() == 3 && parts[2].is_empty();
+    let numbers = if no_most { &fields[..2] } else { &fields[..] };
+    let ill_formed = parts.len() != 3 || numbers.contains(&None);
     let ranges = [1..=LONGEST_HORIZON as u32, 0..=TEXT_LIMIT, 0..=TEXT_LIMIT];
     let out_of_range = fields
         .iter()
@@ -52,12 +55,12 @@ fn faults(line: &[u8], named: &[u32]) -> Vec<u32> {
     asked.iter().filter(|question| question.1).map(|question| question.0).collect()
 }
 
-/// The record of a line without faults.
+/// The record of a line without faults. Its last field may be empty.
 fn record(line: &[u8]) -> Record {
-    let value = |field: usize| line.split(|&byte| byte == b',').nth(field).and_then(number).unwrap_or(0);
+    let value = |field: usize| line.split(|&byte| byte == b',').nth(field).and_then(number);
     Record {
-        window: value(0),
-        least: value(1),
+        window: value(0).unwrap_or(0),
+        least: value(1).unwrap_or(0),
         most: value(2),
     }
 }
@@ -106,54 +109,62 @@ pub fn all_faults(text: &[u8]) -> Vec<Vec<u32>> {
     list
 }
 
-/// The pair of a text: its upper and its lower curve.
-pub fn pair(text: &[u8]) -> Result<(Vec<u32>, Vec<u32>), u32> {
+/// How many of the records of a text without faults have a most: 0 none, 1 some, 2 all.
+pub fn mosts(text: &[u8]) -> Option<u32> {
+    let list = records(text).ok()?;
+    let given = list.iter().filter(|record| record.most.is_some()).count();
+    Some(u32::from(given > 0) + u32::from(given == list.len()))
+}
+
+/// The pair of a text. Where no record has a most it is unlimited, and its list of ceilings is here as long as the horizon.
+pub fn pair(text: &[u8]) -> Result<Pair, u32> {
     let list = records(text)?;
     let horizon = list.iter().map(|record| record.window).max().unwrap_or(0);
-    let smallest = list.iter().map(|record| record.most).min().unwrap_or(0);
+    let smallest = list.iter().filter_map(|record| record.most).min();
     let named = |window: u32| list.iter().find(|record| record.window == window);
-    let upper = (1..=horizon)
-        .map(|window| named(window).map_or(window * smallest, |record| record.most))
-        .collect();
-    let lower = (1..=horizon).map(|window| named(window).map_or(0, |record| record.least)).collect();
-    Ok((upper, lower))
+    let upper = (1..=horizon).map(|window| {
+        let most = named(window).and_then(|record| record.most);
+        most.unwrap_or(window * smallest.unwrap_or(0))
+    });
+    let lower = (1..=horizon).map(|window| named(window).map_or(0, |record| record.least));
+    Ok(Pair {
+        upper: upper.collect(),
+        lower: lower.collect(),
+        mark: u32::from(smallest.is_none()),
+    })
 }
 
-/// Reading as a whole: the pair into the first entries of the result lists.
+/// Reading as a whole: the pair into the first entries of the result lists, and of one of them where there are no ceilings.
 pub fn read_into(text: &[u8], upper: &mut [u32], lower: &mut [u32]) -> u64 {
-    match pair(text) {
-        Err(number) => refused(number),
-        Ok((text_upper, text_lower)) => {
-            let horizon = text_upper.len();
-            if upper.len() < horizon || lower.len() < horizon {
-                return refused(11);
-            }
-            upper[..horizon].copy_from_slice(&text_upper);
-            lower[..horizon].copy_from_slice(&text_lower);
-            horizon as u64
-        }
+    let found = match pair(text) {
+        Err(number) => return refused(number),
+        Ok(found) => found,
+    };
+    let horizon = found.horizon();
+    if upper.len() < horizon || lower.len() < horizon {
+        return refused(11);
     }
+    if !found.unlimited() {
+        upper[..horizon].copy_from_slice(&found.upper);
+    }
+    lower[..horizon].copy_from_slice(&found.lower);
+    answered(horizon as u32, found.unlimited())
 }
 
-/// The closure of a text's pair, or the number of the refusal.
-fn closure(text: &[u8]) -> Result<(Vec<u32>, Vec<u32>), u32> {
-    let (upper, lower) = pair(text)?;
-    let mut closed_upper = vec![0; upper.len()];
-    let mut closed_lower = vec![0; upper.len()];
-    match refusal_of(rounds::close_into(&upper, &lower, &mut closed_upper, &mut closed_lower)) {
-        0 => Ok((closed_upper, closed_lower)),
-        number => Err(number),
-    }
+/// The closure of a text's pair, or the number of the refusal. No figure of such a pair is above a limit of closing.
+fn closure_of(text: &[u8]) -> Result<Pair, u32> {
+    closure(&pair(text)?).ok_or(5)
 }
 
 /// All that is to be written for a text, and the number of the refusal in it or 0.
 pub fn report(text: &[u8]) -> (Vec<u8>, u32) {
-    match closure(text) {
+    match closure_of(text) {
         Err(number) => (format!("refused {number}\r\n").into_bytes(), number),
-        Ok((closed_upper, closed_lower)) => {
+        Ok(closed) => {
             let mut written = format!("{}\r\n", String::from_utf8_lossy(HEADER));
-            for (place, (most, least)) in closed_upper.iter().zip(&closed_lower).enumerate() {
-                written += &format!("{},{},{}\r\n", place + 1, least, most);
+            for window in 1..=closed.horizon() {
+                let most = closed.ceiling(window).map_or(String::new(), |most| most.to_string());
+                written += &format!("{window},{},{most}\r\n", closed.least(window));
             }
             (written.into_bytes(), 0)
         }

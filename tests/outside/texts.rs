@@ -7,7 +7,17 @@ use crate::subject::{HEADER, LONGEST_HORIZON, LONGEST_TEXT, TEXT_LIMIT};
 pub struct Constraint {
     pub window: u32,
     pub least: u32,
-    pub most: u32,
+    pub most: Option<u32>,
+}
+
+/// Takes the most away from some records, from all, or from none.
+fn leave_out_mosts(rng: &mut Rng, list: &mut [Constraint]) {
+    let kind = rng.below(4);
+    for constraint in list {
+        if kind == 0 || (kind == 1 && rng.one_in(2)) {
+            constraint.most = None;
+        }
+    }
 }
 
 /// Records about a common rate, so that many of the texts have closed curves.
@@ -28,10 +38,11 @@ fn constraints(rng: &mut Rng) -> Vec<Constraint> {
     for _ in 0..count {
         let window = windows.swap_remove(rng.length(0, windows.len() - 1));
         let share = window * events / ticks;
-        let most = (share + rng.below(slack + 1)).min(TEXT_LIMIT);
+        let most = Some((share + rng.below(slack + 1)).min(TEXT_LIMIT));
         let least = share.saturating_sub(rng.below(slack)).min(TEXT_LIMIT) * rng.below(2);
         list.push(Constraint { window, least, most });
     }
+    leave_out_mosts(rng, &mut list);
     list
 }
 
@@ -39,7 +50,8 @@ pub fn written(list: &[Constraint]) -> Vec<u8> {
     let mut text = HEADER.to_vec();
     text.extend(b"\r\n");
     for constraint in list {
-        text.extend(format!("{},{},{}\r\n", constraint.window, constraint.least, constraint.most).bytes());
+        let most = constraint.most.map_or(String::new(), |most| most.to_string());
+        text.extend(format!("{},{},{most}\r\n", constraint.window, constraint.least).bytes());
     }
     text
 }
@@ -58,16 +70,19 @@ fn several_faults(rng: &mut Rng) -> Vec<u8> {
     let mut window = 0;
     for _ in 0..rng.between(2, 6) {
         let repeated = rng.between(0, window).max(1);
-        let record = match rng.below(12) {
-            0 => format!("{repeated},0,7\r\n"),
+        let most = rng.pick(&["7", ""]);
+        let record = match rng.below(14) {
+            0 => format!("{repeated},0,{most}\r\n"),
             1 => format!("{repeated},0,65536\r\n"),
-            2 => format!("{repeated},x,7\r\n"),
-            3 => "257,0,7\r\n".to_string(),
+            2 => format!("{repeated},x,{most}\r\n"),
+            3 => format!("257,0,{most}\r\n"),
             4 => "0,99999,01\r\n".to_string(),
             5 => "1,2\r\n".to_string(),
+            6 => format!("1,65536,{most}\r\n"),
+            7 => format!("{repeated},,{most}\r\n"),
             _ => {
                 window += 1;
-                format!("{window},0,7\r\n")
+                format!("{window},0,{most}\r\n")
             }
         };
         text.extend(record.bytes());
@@ -86,11 +101,12 @@ fn long(rng: &mut Rng) -> Vec<u8> {
         LONGEST_TEXT + 2,
         40_000,
     ]);
+    let missing = rng.between(0, LONGEST_HORIZON as u32);
     let all: Vec<Constraint> = (1..=LONGEST_HORIZON as u32)
         .map(|window| Constraint {
             window,
             least: 0,
-            most: TEXT_LIMIT,
+            most: (window != missing).then_some(TEXT_LIMIT),
         })
         .collect();
     let (mut text, filler): (Vec<u8>, &[u8]) = match rng.below(6) {
@@ -121,7 +137,7 @@ fn at_limits(rng: &mut Rng) -> Vec<u8> {
     let constraint = |rng: &mut Rng| Constraint {
         window: rng.pick(windows),
         least: rng.pick(figures),
-        most: rng.pick(figures),
+        most: Some(rng.pick(figures)).filter(|_| !rng.one_in(4)),
     };
     let list: Vec<Constraint> = (0..rng.between(1, 2)).map(|_| constraint(rng)).collect();
     written(&list)
@@ -130,7 +146,8 @@ fn at_limits(rng: &mut Rng) -> Vec<u8> {
 /// A text of any kind.
 pub fn any(rng: &mut Rng) -> Vec<u8> {
     match rng.below(100) {
-        0..=29 => good(rng),
+        0..=25 => good(rng),
+        26..=29 => odd_texts::empty_fields(rng),
         30..=49 => odd_texts::edited(rng),
         50..=59 => odd_texts::cut(rng),
         60..=71 => odd_texts::records(rng),
