@@ -25,6 +25,11 @@ unfoldable pub sendings : View → List ℕ → List (Reply ℕ)
 sendings v [] = []
 sendings v (choice ∷ choices) = sending v choice ∷ sendings (viewAfter (sending v choice) v) choices
 
+-- And the view that they leave.
+unfoldable pub afterSendings : View → List ℕ → View
+afterSendings v [] = v
+afterSendings v (choice ∷ choices) = afterSendings (viewAfter (sending v choice) v) choices
+
 -- ---- any results that the promises allow
 -- A call: a tick with its choice, or one for the range (document 01's look); and what came back.
 pub data Call : Type 0 where

@@ -6,7 +6,7 @@ use lib.ListN.{length, take, drop}
 use lib.Seq.{sets}
 
 -- The beginning of xs, as much of it as ys has room for, in place of that of ys.
-abbrev pub over : List ℕ → List ℕ → List ℕ
+abbrev pub over : {A : Type 0} → List A → List A → List A
 over xs ys = take (length ys) xs ++ drop (length xs) ys
 
 -- The entries t are put into `found` from the place `at` on; `next` is the place after them.

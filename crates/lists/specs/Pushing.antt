@@ -1,4 +1,4 @@
--- A count put behind the held entries of a list.
+-- A count put behind the held entries of a list, and a list of counts.
 use Prim.Native.Nat.{ℕ, _-_}
 use mathlib.Core.Path.{_≡_}
 use mathlib.Core.List.{List, [], _∷_, _++_}
@@ -17,3 +17,14 @@ heldWith found n x = drop (length (behind found n x) - length found) (behind fou
 pub record Pushed (found : List ℕ) (n x : ℕ) (left : List ℕ) (r : ℕ) : Type 0 where
   pub entries : left ≡ over (heldWith found n x) found
   pub number : r ≡ length (heldWith found n x)
+
+-- A list of counts: the first n entries and these behind them, the newest of all, and what is left.
+abbrev pub allBehind : List ℕ → ℕ → List ℕ → List ℕ
+allBehind found n xs = take n found ++ xs
+
+abbrev pub heldWithAll : List ℕ → ℕ → List ℕ → List ℕ
+heldWithAll found n xs = drop (length (allBehind found n xs) - length found) (allBehind found n xs)
+
+pub record PushedAll (found : List ℕ) (n : ℕ) (xs left : List ℕ) (r : ℕ) : Type 0 where
+  pub entries : left ≡ over (heldWithAll found n xs) found
+  pub number : r ≡ length (heldWithAll found n xs)

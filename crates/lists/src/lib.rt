@@ -1,11 +1,11 @@
 // Lists of figures and of counts.
 
 ghost use mathlib.Core.Path.{_≡_};
-ghost use Prim.Native.Nat.{_≤_};
+ghost use Prim.Native.Nat.{_+_, _≤_, min};
 ghost use lib.ListN.{length, replicate};
 ghost use Rattle.lists.specs.Copying.{Copied};
-ghost use Rattle.lists.specs.Pushing.{Pushed};
-ghost use Rattle.lists.specs.Steps.{shiftedDown};
+ghost use Rattle.lists.specs.Pushing.{Pushed, PushedAll};
+ghost use Rattle.lists.specs.Steps.{shiftedDown, movedDown};
 
 // As many entries as the longest horizon has windows.
 const MAX_HORIZON: usize = 256;
@@ -50,6 +50,41 @@ pub fn push(list: &mut [u32], held: usize, count: u32) -> usize
         list[room - 1] = count;
     }
     room
+}
+
+// The same for a list of counts, as if each were put in after the one before it: with more entries than there are places, the oldest go.
+pub fn push_all(list: &mut [u32], held: usize, counts: &[u32]) -> usize
+    ensures { λ r. ⌜ PushedAll (now (list .entry)) held (now (counts .entry)) (now (list .exit)) r ⌝ }
+{
+    let room = list.len();
+    let n = counts.len();
+    if room <= n {
+        copy(&counts[n - room..], list);
+        return room;
+    }
+    let there = smaller(held, room);
+    let kept = smaller(there, room - n);
+    move_down(list, there - kept, kept);
+    copy(counts, &mut list[kept..]);
+    kept + n
+}
+
+fn smaller(a: usize, b: usize) -> usize
+    ensures { λ r. ⌜ r ≡ min a b ⌝ }
+{
+    if a < b { a } else { b }
+}
+
+// The first n places get what those `by` places further on held; the others keep their own.
+fn move_down(list: &mut [u32], by: usize, n: usize)
+    requires { ⌜ by + n ≤ length (now list) ⌝ }
+    ensures { λ _. ⌜ now (list .exit) ≡ movedDown by n (now (list .entry)) ⌝ }
+{
+    let mut i = 0;
+    while i < n {
+        list[i] = list[i + by];
+        i += 1;
+    }
 }
 
 // Each place gets what the next one held; the last keeps its own.

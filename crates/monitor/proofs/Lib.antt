@@ -2,5 +2,5 @@
 pub mod Said
 pub mod Opening
 mod Judging
-mod Ruling
+pub mod Ruling
 mod Examples

@@ -14,7 +14,6 @@ use Rattle.monitor.specs.Answers.{verdictReply}
 use Rattle.monitor.proofs.Said.{judging-legal, judging-failed, ruling-right}
 use Rattle.generator.specs.Opening.{generatorQuestions, generatorOpening}
 use Rattle.scripts.specs.Codes.{replyNumber}
-use Rattle.scripts.specs.Scripts.{scriptAnswer, afterOpening}
 use Rattle.scripts.specs.Steps.{NamesWindow}
 
 -- ---- opening
@@ -29,19 +28,6 @@ generator-opening-numbered p = numbered (generatorQuestions p) _ (omega arith, (
 pub monitor-opening-numbered : (p : AnyPair) → ¬ (monitorOpening p ≡ refusal 0)
 unfolding monitorOpening
 monitor-opening-numbered p = numbered (monitorQuestions p) _ (omega arith, (omega arith, (omega arith, (omega arith, tt))))
-
-module _ (r : ℕ) where
-  -- The state is fresh, and what it answers goes into the script; or the script stays as found.
-  pub run-opened : {S : Type 0} (a : Reply (Unit {0})) → ¬ (a ≡ refusal 0) → r ≡ replyNumber a → r ≡ 0 → (shown start : S)
-      → (a ≡ result tt → shown ≡ start) → (f : S → List ℕ) (found left : List ℕ) → left ≡ f shown
-      → scriptAnswer r left ≡ afterOpening a (f start) found
-  run-opened (result tt) n e z shown start same f found left is = λ i. scriptAnswer (z i) ((is ∙ ap f (same refl)) i)
-  run-opened (refusal k) n e z shown start same f found left is = absurd (n (ap refusal (sym e ∙ z)))
-
-  pub run-refused : (a : Reply (Unit {0})) → r ≡ replyNumber a → ¬ (r ≡ 0) → (answers found left : List ℕ) → left ≡ found
-      → scriptAnswer r left ≡ afterOpening a answers found
-  run-refused (result tt) e n answers found left is = absurd (n e)
-  run-refused (refusal k) e n answers found left is = λ i. scriptAnswer (e i) (is i)
 
 -- ---- verdicts
 -- A verdict that was found is that of a legal state that had not failed, and it is right: a window that it judges is within the horizon.

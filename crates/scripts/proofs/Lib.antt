@@ -1,3 +1,17 @@
--- What is proved of the functions that run a script.
+-- What is proved of the functions that run lists of ticks.
 mod Coded
-mod Scripts
+mod Worded
+mod Pieces
+mod Asked
+mod Running
+mod Held
+mod Given
+mod Written
+mod Opened
+mod Adding
+mod Growing
+mod Keeping
+mod Counting
+mod Raising
+mod Narrowing
+mod Choosing

@@ -1,5 +1,5 @@
--- Answers as numbers: those of a script, and of the opening before it.
-use Prim.Native.Nat.{ℕ, _+_}
+-- Answers as numbers: of a call, and of each tick of a list.
+use Prim.Native.Nat.{ℕ, _+_, _-_}
 use Rattle.curves.specs.Ticks.{passed, tooMany, tooFew}
 use Rattle.curves.specs.Questions.{Reply, result, refusal}
 use Rattle.monitor.specs.Monitoring.{Ruling, judged, lost, alreadyFailed}
@@ -9,7 +9,11 @@ abbrev pub replyNumber : {A : Type 0} → Reply A → ℕ
 replyNumber (result a) = 0
 replyNumber (refusal n) = n
 
--- A refusal as an entry of a script.
+-- A refusal's number with a minus sign, in 64 bits.
+abbrev pub minus : ℕ → ℕ
+minus n = 18_446_744_073_709_551_616 - n
+
+-- A refusal as an entry of a list.
 abbrev pub refusedEntry : ℕ → ℕ
 refusedEntry n = 4_000_000_000 + n
 

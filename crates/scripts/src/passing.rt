@@ -1,0 +1,163 @@
+// How many counts pass on a monitor, told by sums that are kept from tick to tick: a monitor that judges one tick at a time adds up every
+// window anew.
+
+use crate::sums;
+use crate::sums::SUM_LIMIT;
+ghost use mathlib.Core.Path.{_≡_};
+ghost use mathlib.Core.Bool.{false};
+ghost use Prim.Native.Nat.{_+_, _≤_, _<_};
+ghost use lib.ListN.{length};
+ghost use Rattle.laws.specs.Tests.{Tells};
+ghost use Rattle.curves.specs.Pairs.{pairOf};
+ghost use Rattle.curves.specs.Unlimited.{withMark};
+ghost use Rattle.history.specs.Steps.{Slices, viewWith};
+ghost use Rattle.monitor.specs.Monitoring.{monitorView, closedIn, LegalMonitor};
+ghost use Rattle.scripts.specs.Steps.{sumLimit, KeptSums, strictCeiling, strictLeast, TurnedStrict};
+ghost use Rattle.scripts.specs.Steps.{LaterKept, Placed, Grown, KeepFirst, PassesFirst};
+
+// The longest horizon.
+const MAX_HORIZON: usize = 256;
+
+// How many counts, from the first on, certainly pass on a monitor that has not failed: all of them, or as far as sums in 32 bits can tell.
+// A tick passes where it keeps both the figures as given and the closed ones, so the stricter of the two are looked at alone.
+pub(crate) fn count_passing(
+    upper: &[u32],
+    lower: &[u32],
+    unlimited: bool,
+    closed_upper: &[u32],
+    closed_lower: &[u32],
+    ticks: &[u32],
+    counts: &[u32],
+) -> usize
+    requires { ⌜ Slices (now upper) (now lower) (now ticks) ⌝ }
+    requires { ⌜ Slices (now «closed_upper») (now «closed_lower») (now ticks) ⌝ }
+    requires { ⌜ length (now «closed_upper») ≡ length (now upper) ⌝ }
+    requires { ⌜ LegalMonitor (monitorView (viewWith (now upper) (now lower) unlimited (now ticks))
+        (closedIn (withMark (now upper) (now lower) unlimited) (pairOf (now «closed_upper») (now «closed_lower»))) false) ⌝ }
+    ensures { λ r. ⌜ PassesFirst (monitorView (viewWith (now (upper .entry)) (now (lower .entry)) unlimited (now (ticks .entry)))
+        (closedIn (withMark (now (upper .entry)) (now (lower .entry)) unlimited)
+        (pairOf (now («closed_upper» .entry)) (now («closed_lower» .entry)))) false) (now (counts .entry)) r ⌝ }
+{
+    let h = upper.len();
+    let mut sums = sums::no_sums();
+    if !sums::add_up(ticks, &mut sums[..h + 1]) {
+        return 0;
+    }
+    let ceilings = strict_ceilings(upper, unlimited, closed_upper);
+    let leasts = strict_leasts(lower, unlimited, closed_lower);
+    pass(
+        &ceilings[..h],
+        &leasts[..h],
+        &mut sums[..h + 1],
+        ticks,
+        counts,
+    )
+}
+
+// The ceilings turned round, the lower one of each window; where the pair has none, what no kept sum is above.
+fn strict_ceilings(upper: &[u32], unlimited: bool, closed_upper: &[u32]) -> [u32; MAX_HORIZON]
+    requires { ⌜ (length (now upper) ≤ 256) × (length (now «closed_upper») ≡ length (now upper)) ⌝ }
+    ensures { λ r. ⌜ TurnedStrict (strictCeiling unlimited) (now (upper .entry)) (now («closed_upper» .entry)) r ⌝ }
+{
+    let mut ceilings = lists::zeros();
+    let h = upper.len();
+    let mut i = 0;
+    while i < h {
+        ceilings[i] = strict_ceiling(upper[h - 1 - i], unlimited, closed_upper[h - 1 - i]);
+        i += 1;
+    }
+    ceilings
+}
+
+// That of one window.
+fn strict_ceiling(given: u32, unlimited: bool, closed: u32) -> u32
+    ensures { λ r. ⌜ r ≡ strictCeiling unlimited given closed ⌝ }
+{
+    if unlimited {
+        return SUM_LIMIT;
+    }
+    if given < closed { given } else { closed }
+}
+
+// The leasts turned round, the higher one of each window; where the pair has no ceilings nothing is closed, and the given one counts.
+fn strict_leasts(lower: &[u32], unlimited: bool, closed_lower: &[u32]) -> [u32; MAX_HORIZON]
+    requires { ⌜ (length (now lower) ≤ 256) × (length (now «closed_lower») ≡ length (now lower)) ⌝ }
+    ensures { λ r. ⌜ TurnedStrict (strictLeast unlimited) (now (lower .entry)) (now («closed_lower» .entry)) r ⌝ }
+{
+    let mut leasts = lists::zeros();
+    let h = lower.len();
+    let mut i = 0;
+    while i < h {
+        leasts[i] = strict_least(lower[h - 1 - i], unlimited, closed_lower[h - 1 - i]);
+        i += 1;
+    }
+    leasts
+}
+
+// That of one window.
+fn strict_least(given: u32, unlimited: bool, closed: u32) -> u32
+    ensures { λ r. ⌜ r ≡ strictLeast unlimited given closed ⌝ }
+{
+    if unlimited {
+        return given;
+    }
+    if given < closed { closed } else { given }
+}
+
+// Adds count after count to the sums of the ticks before them, until a window is outside its figures, or a count is above the limit of the
+// sums: gives back how many there are before that. `first` is the place of the longest window that is judged.
+fn pass(ceilings: &[u32], leasts: &[u32], sums: &mut [u32], ticks: &[u32], counts: &[u32]) -> usize
+    requires { ⌜ Placed (now sums) (now ceilings) (now leasts) ⌝ }
+    requires { ⌜ length (now ticks) < length (now ceilings) ⌝ }
+    requires { ⌜ KeptSums (now ticks) (length (now ticks)) (now sums) ⌝ }
+    ensures { λ r. ⌜ KeepFirst (now (ceilings .entry)) (now (leasts .entry)) (now (ticks .entry)) (now (counts .entry)) r ⌝ }
+{
+    let mut first = ceilings.len() - 1 - ticks.len();
+    let mut i = 0;
+    while i < counts.len() {
+        let count = counts[i];
+        if SUM_LIMIT < count {
+            return i;
+        }
+        if !grow(
+            &mut sums[first..],
+            &ceilings[first..],
+            &leasts[first..],
+            count,
+        ) {
+            return i;
+        }
+        if 0 < first {
+            first -= 1;
+        }
+        i += 1;
+    }
+    i
+}
+
+// Each sum becomes the next one plus the count; tells whether every one is within its figures. This is where the time goes: one forward
+// loop with no way out before its end, so that the compiler takes several sums at once.
+fn grow(sums: &mut [u32], ceilings: &[u32], leasts: &[u32], count: u32) -> bool
+    requires { ⌜ Placed (now sums) (now ceilings) (now leasts) ⌝ }
+    requires { ⌜ LaterKept (now sums) × (count ≤ sumLimit) ⌝ }
+    ensures { λ r. ⌜ Grown (now (sums .entry)) (now (ceilings .entry)) (now (leasts .entry)) count (now (sums .exit)) r ⌝ }
+{
+    let mut within = true;
+    let mut i = 0;
+    while i < ceilings.len() {
+        let sum = sums[i + 1] + count;
+        sums[i] = sum;
+        within = within & inside(leasts[i], sum, ceilings[i]);
+        i += 1;
+    }
+    within
+}
+
+// Whether a sum is within its figures. They are all small enough for signed numbers, of which one instruction compares four with four; for
+// unsigned ones there is none.
+fn inside(least: u32, sum: u32, ceiling: u32) -> bool
+    requires { ⌜ (least ≤ sumLimit) × (sum ≤ sumLimit + sumLimit) × (ceiling ≤ sumLimit) ⌝ }
+    ensures { λ r. ⌜ Tells r ((least ≤ sum) × (sum ≤ ceiling)) ⌝ }
+{
+    (least as i32 <= sum as i32) & (sum as i32 <= ceiling as i32)
+}
