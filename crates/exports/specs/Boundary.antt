@@ -1,20 +1,17 @@
 -- What each call gives back: the operation of the library that it stands for, its answer as a number, its lists as it leaves them.
--- What a script gives back is said in `scripts`, Scripts.
-use Prim.Native.Nat.{ℕ, _+_, _*_}
+-- What calls on a state give back is said in `scripts`, Scripts.
+use Prim.Native.Nat.{ℕ, zero, suc, _+_, _*_}
 use mathlib.Core.Bool.{Bool, true, false}
 use mathlib.Core.List.{List}
-use lib.Dec.{ltb}
-use lib.ListN.{length}
+use lib.ListN.{length, take}
 use Rattle.laws.specs.Writing.{over}
 use Rattle.curves.specs.Pairs.{Pair}
 use Rattle.closure.specs.Closing.{ClosingAnswer}
 use Rattle.constraints.specs.Reading.{ReadingAnswer}
+use Rattle.rendering.specs.Rendering.{RenderingAnswer}
+use Rattle.scripts.specs.Codes.{minus}
 
 -- ---- closing and reading
--- A mark that is given as a number: any but 0 sets it (request P7).
-abbrev pub markFrom : ℕ → Bool
-markFrom n = ltb 0 n
-
 -- A mark that is given back: a bit of its own.
 abbrev pub markBit : Bool → ℕ
 markBit true = 65_536
@@ -49,3 +46,13 @@ reportReturned r left = record { length = r; output = left }
 -- As many bytes as there is room for; the rest of the list as found.
 abbrev pub reportInto : List ℕ → List ℕ → ReportReturned
 reportInto o found = reportReturned (length o) (over o found)
+
+-- ---- rendering
+-- How long a text is, or a refusal with a minus sign.
+abbrev pub lengthOr : ℕ → ℕ → ℕ
+lengthOr zero n = n
+lengthOr (suc number) n = minus (suc number)
+
+-- The text without its padding; where it is refused there is none.
+abbrev pub renderedInto : RenderingAnswer → List ℕ → ReportReturned
+renderedInto a found = reportReturned (lengthOr (a .number) (a .length)) (over (take (a .length) (a .bytes)) found)

@@ -2,6 +2,7 @@
 
 use closure::Closing;
 use constraints::Reading;
+use rendering::Rendering;
 ghost use mathlib.Core.Path.{_≡_};
 ghost use Prim.Native.Nat.{_≤_};
 ghost use lib.ListN.{length};
@@ -12,8 +13,12 @@ ghost use Rattle.closure.specs.Closing.{closing};
 ghost use Rattle.constraints.specs.Reading.{reading};
 ghost use Rattle.constraints.specs.Answers.{readingHorizon};
 ghost use Rattle.report.specs.Report as report;
-ghost use Rattle.scripts.specs.Scripts.{scriptAnswer, judgedScript, sentScript};
-ghost use Rattle.exports.specs.Boundary.{markFrom, markBit, returned, closingReturned, readingReturned, reportReturned, reportInto};
+ghost use Rattle.rendering.specs.Rendering.{rendering};
+ghost use Rattle.rendering.specs.Answers.{renderingNumber};
+ghost use Rattle.scripts.specs.Words.{markFrom};
+ghost use Rattle.scripts.specs.Scripts.{opened, monitorOpened, generatorOpened, judged, judgedCounts, sent, sentChoices, looked};
+ghost use Rattle.exports.specs.Boundary.{markBit, returned, closingReturned, readingReturned, reportReturned, reportInto};
+ghost use Rattle.exports.specs.Boundary.{lengthOr, renderedInto};
 ghost use Rattle.exports.specs.Steps.{closingCode, readingCode};
 
 // A refusal's number stands in the upper 32 bits of an answer.
@@ -21,6 +26,13 @@ const REFUSAL: u64 = 4_294_967_296;
 
 // The mark of a pair without ceilings, in an answer.
 const UNLIMITED: u64 = 65_536;
+
+// The refusals of rendering, with a minus sign.
+const MINUS_ONE: u64 = 18_446_744_073_709_551_615;
+
+const MINUS_TWO: u64 = 18_446_744_073_709_551_614;
+
+const MINUS_FOUR: u64 = 18_446_744_073_709_551_612;
 
 // `closure::close`. Here and below any number but 0 says that the pair has no ceilings.
 #[no_mangle]
@@ -110,30 +122,96 @@ fn copy_bytes(from: &[u8], to: &mut [u8])
     }
 }
 
-// `scripts::judge_script`.
+// `rendering::render`, as much of the text as there is room for, and how long all of it is; or the refusal's number with a minus sign.
 #[no_mangle]
-pub extern "C" fn calgedze_judge(
+pub extern "C" fn calgedze_render(
     upper: &[u32],
     lower: &[u32],
     unlimited: u32,
-    script: &mut [u32],
-) -> u32
-    ensures { λ r. ⌜ scriptAnswer r (now (script .exit))
-        ≡ judgedScript (withMark (now (upper .entry)) (now (lower .entry)) (markFrom unlimited)) (now (script .entry)) ⌝ }
+    output: &mut [u8],
+) -> u64
+    ensures { λ r. ⌜ reportReturned r (now (output .exit))
+        ≡ renderedInto (rendering (withMark (now (upper .entry)) (now (lower .entry)) (markFrom unlimited))) (now (output .entry)) ⌝ }
 {
-    scripts::judge_script(upper, lower, 0 < unlimited, script)
+    let rendered = rendering::render(upper, lower, 0 < unlimited);
+    let n = rendered.length;
+    let bytes = rendered.bytes;
+    let answer = rendered.answer;
+    copy_bytes(&bytes[..n], output);
+    rendering_number(answer, n)
 }
 
-// `scripts::generate_script`.
+// What rendering answers, as one number.
+fn rendering_number(answer: Rendering, n: usize) -> u64
+    ensures { λ r. ⌜ r ≡ lengthOr (renderingNumber answer) n ⌝ }
+{
+    match answer {
+        Rendering::Written => n as u64,
+        Rendering::UpperLength => MINUS_ONE,
+        Rendering::LowerLength => MINUS_TWO,
+        Rendering::FigureLimit => MINUS_FOUR,
+    }
+}
+
+// `scripts::open_monitor`.
 #[no_mangle]
-pub extern "C" fn calgedze_generate(
+pub extern "C" fn calgedze_monitor_open(
     upper: &[u32],
     lower: &[u32],
     unlimited: u32,
-    script: &mut [u32],
+    state: &mut [u32],
 ) -> u32
-    ensures { λ r. ⌜ scriptAnswer r (now (script .exit))
-        ≡ sentScript (withMark (now (upper .entry)) (now (lower .entry)) (markFrom unlimited)) (now (script .entry)) ⌝ }
+    ensures { λ r. ⌜ opened r (now (state .exit))
+        ≡ monitorOpened (withMark (now (upper .entry)) (now (lower .entry)) (markFrom unlimited)) (now (state .entry)) ⌝ }
 {
-    scripts::generate_script(upper, lower, 0 < unlimited, script)
+    scripts::open_monitor(upper, lower, 0 < unlimited, state)
+}
+
+// `scripts::judge`.
+#[no_mangle]
+pub extern "C" fn calgedze_monitor_run(
+    state: &mut [u32],
+    counts: &[u32],
+    verdicts: &mut [u32],
+    margins: &mut [i64],
+) -> u64
+    ensures { λ r. ⌜ judged r (now (state .exit)) (now (verdicts .exit)) (now (margins .exit))
+        ≡ judgedCounts (now (state .entry)) (now (counts .entry)) (now (verdicts .entry)) (now (margins .entry)) ⌝ }
+{
+    scripts::judge(state, counts, verdicts, margins)
+}
+
+// `scripts::open_generator`.
+#[no_mangle]
+pub extern "C" fn calgedze_generator_open(
+    upper: &[u32],
+    lower: &[u32],
+    unlimited: u32,
+    state: &mut [u32],
+) -> u32
+    ensures { λ r. ⌜ opened r (now (state .exit))
+        ≡ generatorOpened (withMark (now (upper .entry)) (now (lower .entry)) (markFrom unlimited)) (now (state .entry)) ⌝ }
+{
+    scripts::open_generator(upper, lower, 0 < unlimited, state)
+}
+
+// `scripts::generate`.
+#[no_mangle]
+pub extern "C" fn calgedze_generator_run(
+    state: &mut [u32],
+    choices: &[u32],
+    counts: &mut [u32],
+) -> u64
+    ensures { λ r. ⌜ sent r (now (state .exit)) (now (counts .exit))
+        ≡ sentChoices (now (state .entry)) (now (choices .entry)) (now (counts .entry)) ⌝ }
+{
+    scripts::generate(state, choices, counts)
+}
+
+// `scripts::look`.
+#[no_mangle]
+pub extern "C" fn calgedze_generator_look(state: &[u32]) -> u64
+    ensures { λ r. ⌜ r ≡ looked (now (state .entry)) ⌝ }
+{
+    scripts::look(state)
 }

@@ -11,6 +11,11 @@ const LEAST_LIMIT: u32 = 65_535;
 
 const LARGEST: u32 = 4_294_967_295;
 
+// How many words a state has.
+const MONITOR_WORDS: usize = 1_284;
+
+const GENERATOR_WORDS: usize = 771;
+
 // One entry more than the longest list.
 const ROOM: usize = 257;
 
@@ -65,12 +70,34 @@ fn try_pair(upper: &[u32], lower: &[u32], mark: u32) {
         numbers::digest(&closed_upper),
         numbers::digest(&closed_lower),
     );
-    let mut counts = [LIMIT, LIMIT + 1];
-    numbers::show(exports::calgedze_judge(upper, lower, mark, &mut counts) as u64);
+    try_monitor(upper, lower, mark);
+    try_generator(upper, lower, mark);
+}
+
+// What is judged takes the place of the counts; where the opening is refused, they stay.
+fn try_monitor(upper: &[u32], lower: &[u32], mark: u32) {
+    let counts = [LIMIT, LIMIT + 1];
+    let mut verdicts = counts;
+    let mut state = [7u32; MONITOR_WORDS];
+    let number = exports::calgedze_monitor_open(upper, lower, mark, &mut state);
+    if number == 0 {
+        exports::calgedze_monitor_run(&mut state, &counts, &mut verdicts, &mut []);
+    }
+    numbers::show(number as u64);
+    numbers::show(numbers::digest(&verdicts));
+}
+
+// Likewise what is sent.
+fn try_generator(upper: &[u32], lower: &[u32], mark: u32) {
+    let choices = [LIMIT, LIMIT + 1];
+    let mut counts = choices;
+    let mut state = [7u32; GENERATOR_WORDS];
+    let number = exports::calgedze_generator_open(upper, lower, mark, &mut state);
+    if number == 0 {
+        exports::calgedze_generator_run(&mut state, &choices, &mut counts);
+    }
+    numbers::show(number as u64);
     numbers::show(numbers::digest(&counts));
-    let mut choices = [LIMIT, LIMIT + 1];
-    numbers::show(exports::calgedze_generate(upper, lower, mark, &mut choices) as u64);
-    numbers::show(numbers::digest(&choices));
 }
 
 fn repeated(figure: u32) -> [u32; ROOM]

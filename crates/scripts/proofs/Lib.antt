@@ -8,6 +8,7 @@ mod Held
 mod Given
 mod Written
 mod Opened
+pub mod InPieces
 mod Adding
 mod Growing
 mod Keeping

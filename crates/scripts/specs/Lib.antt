@@ -3,5 +3,6 @@
 pub mod Codes
 pub mod Words
 pub mod Scripts
+pub mod Theorems
 pub mod Steps
 pub mod Runs
