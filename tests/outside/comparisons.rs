@@ -4,7 +4,8 @@ use crate::random::Rng;
 use crate::subject::Subject;
 use crate::tally::Tally;
 use crate::workers::Work;
-use crate::{closings, known, lost, promises, reading, scripts, sendings, unlimited_closings, unlimited_scripts};
+use crate::{borders, closings, damages, known, long_lists, lost, pieces, promises, reading, renders, scripts, sendings};
+use crate::{unlimited_closings, unlimited_scripts};
 
 pub struct Comparison {
     pub name: &'static str,
@@ -84,6 +85,48 @@ pub const COMPARISONS: &[Comparison] = &[
         cases: 3_000,
         sample: 100,
         one: promises::compare_unlimited,
+    },
+    Comparison {
+        name: "monitors in pieces",
+        cases: 4_000,
+        sample: 300,
+        one: pieces::compare_monitor,
+    },
+    Comparison {
+        name: "generators in pieces",
+        cases: 4_000,
+        sample: 300,
+        one: pieces::compare_generator,
+    },
+    Comparison {
+        name: "words by hand",
+        cases: 40_000,
+        sample: 2_000,
+        one: damages::compare,
+    },
+    Comparison {
+        name: "rendering",
+        cases: 10_000,
+        sample: 300,
+        one: renders::compare,
+    },
+    Comparison {
+        name: "borders, monitor",
+        cases: 1_000,
+        sample: 60,
+        one: borders::compare_monitor,
+    },
+    Comparison {
+        name: "borders, generator",
+        cases: 1_000,
+        sample: 60,
+        one: borders::compare_generator,
+    },
+    Comparison {
+        name: "long lists",
+        cases: 200,
+        sample: 12,
+        one: long_lists::compare,
     },
     Comparison {
         name: "known figures",

@@ -5,7 +5,7 @@ use std::ops::RangeInclusive;
 use crate::faults::Fault::*;
 use crate::faulty_closing::{Faulty, Figures};
 use crate::faulty_monitor::Monitor;
-use crate::faulty_streams::{History, FAR};
+use crate::faulty_streams::{History, BORDER, FAR};
 use crate::streams::Margin;
 use crate::subject::{LEAST_LIMIT, LOST, PASSED};
 
@@ -21,7 +21,8 @@ impl Faulty {
     }
 
     fn window_margin(&self, history: &History, figures: &Figures, count: u32, window: usize) -> i64 {
-        let sum = i64::from(count) + history.before(window - 1);
+        let whole = i64::from(count) + history.before(window - 1);
+        let sum = if self.has(MarginAtBorder) { whole.min(BORDER) } else { whole };
         let (above, below) = (self.margin_ceiling(figures, window) - sum, sum - figures.lower[window]);
         match self.fault {
             MarginLarger => above.max(below),
