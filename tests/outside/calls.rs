@@ -50,11 +50,15 @@ impl Came {
         inner(&mut self.answers)
     }
 
-    fn shown(&self) -> String {
-        let Came {
-            number, answers, margins, ..
-        } = self;
-        format!("{number}\n  answers {answers:?}\n  margins {margins:?}\n  words {:?}", self.words)
+    /// The words are shown where they differ from others.
+    fn shown(&self, other: &Came) -> String {
+        let words = self.words[MARGIN..].iter().zip(&other.words[MARGIN..]).enumerate();
+        let differing: Vec<String> = words
+            .filter(|(_, (own, other))| own != other)
+            .map(|(place, (own, _))| format!("{place}: {own}"))
+            .collect();
+        let lists = format!("answers {:?}\n  margins {:?}", self.answers, self.margins);
+        format!("{}\n  {lists}\n  words that differ {}", self.number, differing.join(", "))
     }
 }
 
@@ -100,15 +104,11 @@ impl Run<'_> {
         if came == due {
             return Ok(came);
         }
-        let Run { words, entries, room, .. } = self;
-        let input = format!("a run of {}\n  words {words:?}\n  entries {entries:?}", self.kind.name());
+        let lists = format!("words {:?}\n  entries {:?}", self.words, self.entries);
+        let room = format!("room for {} answers and {} margins", self.room, self.margins);
         let note = format!("(lists are shown with the {MARGIN} entries before and after them)");
-        let places = format!("room for {room} answers and {} margins", self.margins);
-        Err(format!(
-            "{input}\n{places}\nexpected {}\ncame {}\n{note}",
-            due.shown(),
-            came.shown()
-        ))
+        let found = format!("expected {}\ncame {}", due.shown(&came), came.shown(&due));
+        Err(format!("a run of {}\n  {lists}\n{room}\n{found}\n{note}", self.kind.name()))
     }
 
     /// Against the reference.

@@ -19,6 +19,7 @@ pub struct Comparison {
 /// The comparison by which mutants are judged alone too: it uses no expected figures.
 pub const PROMISES: &str = "promises of closures";
 
+/// Those that tell many mutants apart in little time stand first.
 pub const COMPARISONS: &[Comparison] = &[
     Comparison {
         name: "closings",
@@ -27,10 +28,34 @@ pub const COMPARISONS: &[Comparison] = &[
         one: closings::compare,
     },
     Comparison {
+        name: "words by hand",
+        cases: 200_000,
+        sample: 2_000,
+        one: damages::compare,
+    },
+    Comparison {
+        name: "rendering",
+        cases: 20_000,
+        sample: 200,
+        one: renders::compare,
+    },
+    Comparison {
         name: "texts",
         cases: 100_000,
         sample: 4_000,
         one: reading::compare_reading,
+    },
+    Comparison {
+        name: "monitors in pieces",
+        cases: 10_000,
+        sample: 100,
+        one: pieces::compare_monitor,
+    },
+    Comparison {
+        name: "generators in pieces",
+        cases: 10_000,
+        sample: 100,
+        one: pieces::compare_generator,
     },
     Comparison {
         name: "monitor scripts",
@@ -87,45 +112,21 @@ pub const COMPARISONS: &[Comparison] = &[
         one: promises::compare_unlimited,
     },
     Comparison {
-        name: "monitors in pieces",
-        cases: 4_000,
-        sample: 300,
-        one: pieces::compare_monitor,
-    },
-    Comparison {
-        name: "generators in pieces",
-        cases: 4_000,
-        sample: 300,
-        one: pieces::compare_generator,
-    },
-    Comparison {
-        name: "words by hand",
-        cases: 40_000,
-        sample: 2_000,
-        one: damages::compare,
-    },
-    Comparison {
-        name: "rendering",
-        cases: 10_000,
-        sample: 300,
-        one: renders::compare,
-    },
-    Comparison {
         name: "borders, monitor",
-        cases: 1_000,
+        cases: 4_000,
         sample: 60,
         one: borders::compare_monitor,
     },
     Comparison {
         name: "borders, generator",
-        cases: 1_000,
+        cases: 4_000,
         sample: 60,
         one: borders::compare_generator,
     },
     Comparison {
         name: "long lists",
-        cases: 200,
-        sample: 12,
+        cases: 500,
+        sample: 8,
         one: long_lists::compare,
     },
     Comparison {

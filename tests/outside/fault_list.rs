@@ -170,6 +170,7 @@ pub const MUTANTS: &[(Fault, &str)] = &[
     (BorderPasses, "sums: above 2^29 all passes"),
     (BorderRejects, "sums: above 2^29 all is too many"),
     (MarginAtBorder, "sums: cut off at 2^29 for a margin"),
+    (MarginOfCutCounts, "sums: counts cut off at 16,776,960 for a margin"),
     (LeadingZeroTaken, "text: leading zero taken"),
     (SixDigitsTaken, "text: six digits well formed"),
     (BlankTaken, "text: blanks around a number taken"),

@@ -188,6 +188,7 @@ pub enum Fault {
     BorderPasses,
     BorderRejects,
     MarginAtBorder,
+    MarginOfCutCounts,
     // Text.
     LeadingZeroTaken,
     SixDigitsTaken,

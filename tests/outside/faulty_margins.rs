@@ -7,7 +7,7 @@ use crate::faulty_closing::{Faulty, Figures};
 use crate::faulty_monitor::Monitor;
 use crate::faulty_streams::{History, BORDER, FAR};
 use crate::streams::Margin;
-use crate::subject::{LEAST_LIMIT, LOST, PASSED};
+use crate::subject::{LEAST_LIMIT, LIMIT, LOST, PASSED};
 
 impl Faulty {
     /// The ceiling that a margin goes by. Without ceilings it is so far that the least is always nearer.
@@ -22,7 +22,11 @@ impl Faulty {
 
     fn window_margin(&self, history: &History, figures: &Figures, count: u32, window: usize) -> i64 {
         let whole = i64::from(count) + history.before(window - 1);
-        let sum = if self.has(MarginAtBorder) { whole.min(BORDER) } else { whole };
+        let sum = match self.fault {
+            MarginAtBorder => whole.min(BORDER),
+            MarginOfCutCounts => i64::from(count.min(LIMIT)) + history.before(window - 1),
+            _ => whole,
+        };
         let (above, below) = (self.margin_ceiling(figures, window) - sum, sum - figures.lower[window]);
         match self.fault {
             MarginLarger => above.max(below),

@@ -198,9 +198,10 @@ impl Faulty {
         verdict
     }
 
-    /// The same with the margin. It is that of the history before the tick.
-    pub fn whole_tick(&self, monitor: &mut Monitor, count: u32) -> (u32, Margin) {
+    /// The same with the margin, where it is asked for. It is that of the history before the tick.
+    pub fn whole_tick(&self, monitor: &mut Monitor, count: u32, asked: bool) -> (u32, Margin) {
         let margin = match monitor.failed {
+            _ if !asked => Margin::default(),
             PASSED => self.margin(monitor, count, self.ruling(monitor, count)),
             _ if self.has(MarginWhereFailed) => self.margin(monitor, count, PASSED),
             _ => Margin::default(),
@@ -253,7 +254,7 @@ impl Faulty {
             Ok(figures) => (0, figures),
         };
         let mut monitor = self.monitor(figures.0, figures.1, &[]);
-        let ticks = run.counts.iter().map(|&count| self.whole_tick(&mut monitor, count)).collect();
+        let ticks = run.counts.iter().map(|&count| self.whole_tick(&mut monitor, count, true)).collect();
         Course { opening, ticks }
     }
 

@@ -109,6 +109,8 @@ impl Faulty {
             true => self.closed_pair(pair.clone()).unwrap_or(pair),
             false => pair,
         };
-        self.put_into(&self.text_of(&shown), output, RenderNothingWhenShort, RenderLengthCut) as i64
+        // Faults of a report have no effect here.
+        let written = Faulty { fault: NoFault }.text_of(&shown);
+        self.put_into(&written, output, RenderNothingWhenShort, RenderLengthCut) as i64
     }
 }

@@ -129,10 +129,10 @@ impl Faulty {
         -12
     }
 
-    /// One tick, with its margin where it is a monitor's.
-    fn tick(&self, kind: Kind, monitor: &mut Monitor, entry: u32) -> (u32, Margin) {
+    /// One tick, with its margin where it is a monitor's and asked for.
+    fn tick(&self, kind: Kind, monitor: &mut Monitor, entry: u32, asked: bool) -> (u32, Margin) {
         let came = match kind {
-            Kind::Monitor => self.whole_tick(monitor, entry),
+            Kind::Monitor => self.whole_tick(monitor, entry, asked),
             Kind::Generator => (self.generator_tick(&mut monitor.history, entry), Margin::default()),
         };
         monitor.history.ran += 1;
@@ -144,7 +144,7 @@ impl Faulty {
         let more = if self.has(AllEntriesRun) { lent.entries.len() } else { ran };
         let no_margins = self.has(MarginsWholeOrNone) && lent.margins.len() < ran;
         for place in 0..more {
-            let (answer, margin) = self.tick(kind, monitor, lent.entries[place]);
+            let (answer, margin) = self.tick(kind, monitor, lent.entries[place], place < lent.margins.len());
             if place >= ran {
                 continue;
             }

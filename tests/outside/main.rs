@@ -25,6 +25,7 @@ mod faulty_text;
 mod faulty_words;
 mod known;
 mod known_streams;
+mod known_words;
 mod limits;
 mod long_lists;
 mod lost;
