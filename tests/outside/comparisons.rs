@@ -124,10 +124,16 @@ pub const COMPARISONS: &[Comparison] = &[
         one: borders::compare_generator,
     },
     Comparison {
-        name: "long lists",
+        name: "long lists, monitor",
         cases: 500,
         sample: 8,
-        one: long_lists::compare,
+        one: long_lists::compare_monitor,
+    },
+    Comparison {
+        name: "long lists, generator",
+        cases: 300,
+        sample: 3,
+        one: long_lists::compare_generator,
     },
     Comparison {
         name: "known figures",

@@ -44,11 +44,16 @@ fn note_taken(words: &[u32], state: &State, tally: &mut Tally) {
     seen.for_each(|(number, _)| tally.note(BUILT_TAKEN, number));
 }
 
+/// Of what is sent: the first entry, a later count, the first entry without one, and those after that.
 fn note_answers(kind: Kind, answers: &[u32], tally: &mut Tally) {
     for (place, &answer) in answers.iter().enumerate() {
-        let (at, number) = match kind {
-            Kind::Monitor => (if place == 0 { BUILT_VERDICT } else { BUILT_LATER }, answer / 1_000),
-            Kind::Generator => (BUILT_COUNT, u32::from(answer == NO_COUNT) + 2 * u32::from(place > 0)),
+        let none = answer == NO_COUNT;
+        let (at, number) = match (kind, place) {
+            (Kind::Monitor, 0) => (BUILT_VERDICT, answer / 1_000),
+            (Kind::Monitor, _) => (BUILT_LATER, answer / 1_000),
+            (Kind::Generator, 0) => (BUILT_COUNT, u32::from(none)),
+            (Kind::Generator, _) if answers[place - 1] == NO_COUNT => (BUILT_COUNT, 4),
+            (Kind::Generator, _) => (BUILT_COUNT, 2 + u32::from(none)),
         };
         tally.note(at, number);
     }

@@ -169,6 +169,8 @@ pub const MUTANTS: &[(Fault, &str)] = &[
     (CountsIn29Bits, "sums: of counts in 29 bits"),
     (BorderPasses, "sums: above 2^29 all passes"),
     (BorderRejects, "sums: above 2^29 all is too many"),
+    (BorderStays, "sums: once above 2^29 all passes"),
+    (BorderOfTwoTicks, "sums: 2^29 of several ticks taken for 0"),
     (MarginAtBorder, "sums: cut off at 2^29 for a margin"),
     (MarginOfCutCounts, "sums: counts cut off at 16,776,960 for a margin"),
     (LeadingZeroTaken, "text: leading zero taken"),

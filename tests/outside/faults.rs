@@ -187,6 +187,8 @@ pub enum Fault {
     CountsIn29Bits,
     BorderPasses,
     BorderRejects,
+    BorderStays,
+    BorderOfTwoTicks,
     MarginAtBorder,
     MarginOfCutCounts,
     // Text.

@@ -68,7 +68,11 @@ impl Faulty {
         } else {
             i64::from(count)
         };
-        self.kept(count + history.before(if whole { window } else { window - 1 }))
+        let sum = count + history.before(if whole { window } else { window - 1 });
+        if self.has(BorderOfTwoTicks) && sum == BORDER && count < BORDER {
+            return 0;
+        }
+        self.kept(sum)
     }
 
     /// Whether some window has a sum above the border.
@@ -113,6 +117,7 @@ impl Faulty {
         match self.fault {
             FirstTickOnly if !history.held.is_empty() => return PASSED,
             BorderPasses if self.over_border(history, count) => return PASSED,
+            BorderStays if history.was_over => return PASSED,
             BorderRejects if self.over_border(history, count) => return TOO_MANY + self.judged_windows(history) as u32,
             _ => {}
         }

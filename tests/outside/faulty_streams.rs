@@ -18,8 +18,9 @@ pub struct History {
     summed: Vec<u32>,
     /// The sums of the last of them, that of none first.
     sums: Vec<i64>,
-    /// How many ticks of the list have run.
+    /// How many ticks of the list have run, and whether some sum of them was above the border.
     pub ran: usize,
+    pub was_over: bool,
 }
 
 impl History {
@@ -55,6 +56,7 @@ impl Faulty {
             summed,
             sums: Vec::new(),
             ran: 0,
+            was_over: false,
         };
         history.sum_up();
         history
@@ -85,6 +87,7 @@ impl Faulty {
             list.drain(..list.len().saturating_sub(room));
         }
         history.sum_up();
+        history.was_over |= history.before(history.held.len()) > BORDER;
     }
 
     /// The largest count that a generator sends where there are no ceilings.

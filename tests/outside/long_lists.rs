@@ -1,14 +1,28 @@
 //! Long lists: streams that pass for thousands of ticks, on figures that they just keep, and at the last one break exactly one window by
-//! one message. States built by hand have it in the figures as given, in the closed ones or in both, so that neither may be left out.
+//! one message. States built by hand have it in the figures as given, in the closed ones or in both, so that neither may be left out. And
+//! lists of choices as long, on closed pairs.
 
 use crate::built::{self, state_words};
 use crate::pair::Pair;
 use crate::pieces::List;
 use crate::random::Rng;
-use crate::subject::{Subject, LONGEST_HORIZON, LOST, PASSED, TOO_FEW, TOO_MANY};
-use crate::tally::{Tally, LONG_FEW, LONG_LOST, LONG_MANY, LONG_UNLIMITED};
+use crate::reference::Reference;
+use crate::script_cases::choices;
+use crate::sendings::check_passed;
+use crate::subject::{Subject, GENERATOR_WORDS, LONGEST_HORIZON, LOST, PASSED, TOO_FEW, TOO_MANY};
+use crate::tally::{horizon_end, Tally, LONG_FEW, LONG_LOST, LONG_MANY, LONG_SENT, LONG_UNLIMITED};
 use crate::window_sums::{extremes, figures};
 use crate::words::{Kind, MARK_WORD};
+use crate::{pairs, unlimited_pairs};
+
+fn horizon(rng: &mut Rng) -> usize {
+    let any = rng.length(1, LONGEST_HORIZON);
+    rng.pick(&[LONGEST_HORIZON, LONGEST_HORIZON, 255, 16, 17, any])
+}
+
+fn length(rng: &mut Rng) -> usize {
+    rng.length(1_300, 3_500)
+}
 
 /// Which figures the last tick breaks.
 #[derive(Clone, Copy, PartialEq)]
@@ -31,13 +45,12 @@ struct Stream {
 
 impl Stream {
     fn drawn(rng: &mut Rng) -> Stream {
-        let any = rng.length(1, LONGEST_HORIZON);
-        let horizon = rng.pick(&[LONGEST_HORIZON, LONGEST_HORIZON, 255, 16, 17, any]);
+        let horizon = horizon(rng);
         let any = rng.length(1, horizon);
         let window = rng.pick(&[1, 16, 255, 256, horizon, any]).min(horizon);
         let scale = rng.pick(&[1, 3, 50, 65_000]);
         let period: Vec<u32> = (0..window).map(|_| rng.between(1, scale)).collect();
-        let length = rng.length(1_300, 3_500);
+        let length = length(rng);
         let mut counts: Vec<u32> = period.iter().copied().cycle().take(length).collect();
         let more = rng.one_in(2);
         let between = rng.length(0, horizon - 1);
@@ -113,7 +126,7 @@ fn note(due: u32, stream: &Stream, words: &[u32], tally: &mut Tally) {
     tally.note(kind, stream.window as u32);
 }
 
-pub fn compare(subject: &dyn Subject, rng: &mut Rng, tally: &mut Tally) -> Result<(), String> {
+pub fn compare_monitor(subject: &dyn Subject, rng: &mut Rng, tally: &mut Tally) -> Result<(), String> {
     let stream = Stream::drawn(rng);
     let (words, due) = words_and_due(rng, &stream);
     let mut counts = stream.counts[stream.held..].to_vec();
@@ -128,4 +141,20 @@ pub fn compare(subject: &dyn Subject, rng: &mut Rng, tally: &mut Tally) -> Resul
     }
     note(due, &stream, &words, tally);
     list.check_cuts(subject, rng, tally)
+}
+
+pub fn compare_generator(subject: &dyn Subject, rng: &mut Rng, tally: &mut Tally) -> Result<(), String> {
+    let horizon = horizon(rng);
+    let pair = match rng.one_in(4) {
+        true => unlimited_pairs::closure_of_any(rng, horizon),
+        false => pairs::closure_of_any(rng, horizon),
+    };
+    let mut words = [0; GENERATOR_WORDS];
+    Kind::Generator.open(&Reference, &pair, &mut words);
+    let length = length(rng);
+    let choices = choices(rng, length);
+    let list = List::new(Kind::Generator, &words, &choices)?;
+    tally.note(LONG_SENT, horizon_end(horizon));
+    list.check_cuts(subject, rng, tally)?;
+    check_passed(subject, &pair, &list.trace.answers)
 }

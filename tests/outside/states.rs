@@ -83,7 +83,7 @@ pub fn full(unlimited: bool) -> State {
 
 /// What a monitor's tick comes to.
 pub struct Judged {
-    /// As an entry of a script.
+    /// As a run answers it.
     pub answer: u32,
     pub margin: Margin,
     pub failed: bool,

@@ -103,7 +103,7 @@ pub const GENERATOR_LENGTH: &str = "12 for a generator's words of this number";
 pub const BUILT_VERDICT: &str = "the first tick on words by hand (0 to 4 verdicts)";
 pub const BUILT_LATER: &str = "later ticks on words by hand (0 to 4 verdicts)";
 pub const BUILT_BOTH: &str = "words by hand, many and few at once, 1 in one window";
-pub const BUILT_COUNT: &str = "sent by hand (0 a count, 1 none; 2, 3 later)";
+pub const BUILT_COUNT: &str = "sent by hand (0 a count, 1 none; later 2, 3, 4 none again)";
 pub const BUILT_LOOK: &str = "looks at words by hand (0 a range, 12 or 13 refused)";
 pub const RENDERED: &str = "rendering refused with (0: a text)";
 pub const RENDER_ROOM: &str = "rendered into a list (0 short, 1 exact, 2 longer)";
@@ -111,6 +111,7 @@ pub const LONG_MANY: &str = "too many after thousands of ticks, window";
 pub const LONG_FEW: &str = "too few after thousands of ticks, window";
 pub const LONG_LOST: &str = "lost after thousands of ticks, window";
 pub const LONG_UNLIMITED: &str = "too few after thousands without ceilings, window";
+pub const LONG_SENT: &str = "thousands of ticks sent, horizon up to";
 pub const BORDER_COUNT: &str = "a count amid a list";
 pub const BORDER_HELD: &str = "held at a power of two (0 less, 1 as much, 2 more)";
 pub const BORDER_LIST: &str = "counted at a power of two (0 less, 1 as much, 2 more)";
@@ -233,7 +234,7 @@ const DUE: &[(&str, &[u32])] = &[
     (BUILT_VERDICT, &[0, 1, 2, 3, 4]),
     (BUILT_LATER, &[0, 1, 2, 3, 4]),
     (BUILT_BOTH, &[0, 1]),
-    (BUILT_COUNT, &[0, 1, 2, 3]),
+    (BUILT_COUNT, &[0, 1, 2, 3, 4]),
     (BUILT_LOOK, &[0, 12, 13]),
     (RENDERED, &[0, 1, 2, 4]),
     (RENDER_ROOM, &[0, 1, 2]),
@@ -241,6 +242,7 @@ const DUE: &[(&str, &[u32])] = &[
     (LONG_FEW, LONG_WINDOWS),
     (LONG_LOST, LONG_WINDOWS),
     (LONG_UNLIMITED, LONG_WINDOWS),
+    (LONG_SENT, &[64, 255, 256]),
     (
         BORDER_COUNT,
         &[
