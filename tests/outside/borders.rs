@@ -88,7 +88,7 @@ fn put(rng: &mut Rng, stream: &mut [u32], place: usize, horizon: usize, tallied:
     }
 }
 
-/// A stream with some such sums among small counts, of which none is 0 but maybe the last; and how many of its ticks are held at first.
+/// A stream with some such sums among small counts that are not 0, but maybe the last; and how many of its ticks are held at first.
 struct Course {
     horizon: usize,
     stream: Vec<u32>,

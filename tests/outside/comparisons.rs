@@ -130,6 +130,12 @@ pub const COMPARISONS: &[Comparison] = &[
         one: long_lists::compare_monitor,
     },
     Comparison {
+        name: "every window",
+        cases: 1,
+        sample: 1,
+        one: long_lists::compare_every_window,
+    },
+    Comparison {
         name: "long lists, generator",
         cases: 300,
         sample: 3,

@@ -12,7 +12,7 @@ use crate::sendings::check_passed;
 use crate::subject::{Subject, GENERATOR_WORDS, LONGEST_HORIZON, LOST, PASSED, TOO_FEW, TOO_MANY};
 use crate::tally::{horizon_end, Tally, LONG_FEW, LONG_LOST, LONG_MANY, LONG_SENT, LONG_UNLIMITED};
 use crate::window_sums::{extremes, figures};
-use crate::words::{Kind, MARK_WORD};
+use crate::words::Kind;
 use crate::{pairs, unlimited_pairs};
 
 fn horizon(rng: &mut Rng) -> usize {
@@ -24,12 +24,13 @@ fn length(rng: &mut Rng) -> usize {
     rng.length(1_300, 3_500)
 }
 
-/// Which figures the last tick breaks.
+/// Which figures the last tick breaks. The last are those of a state without ceilings.
 #[derive(Clone, Copy, PartialEq)]
 enum Broken {
     Given,
     Closed,
     Both,
+    Leasts,
 }
 
 /// A stream whose counts repeat after a window's length, so that every sum of that window is the same, but for the last tick.
@@ -44,17 +45,12 @@ struct Stream {
 }
 
 impl Stream {
-    fn drawn(rng: &mut Rng) -> Stream {
-        let horizon = horizon(rng);
-        let any = rng.length(1, horizon);
-        let window = rng.pick(&[1, 16, 255, 256, horizon, any]).min(horizon);
+    fn new(rng: &mut Rng, horizon: usize, window: usize, more: bool, length: usize) -> Stream {
         let scale = rng.pick(&[1, 3, 50, 65_000]);
         let period: Vec<u32> = (0..window).map(|_| rng.between(1, scale)).collect();
-        let length = length(rng);
         let mut counts: Vec<u32> = period.iter().copied().cycle().take(length).collect();
-        let more = rng.one_in(2);
-        let between = rng.length(0, horizon - 1);
         counts[length - 1] = if more { counts[length - 1] + 1 } else { counts[length - 1] - 1 };
+        let between = rng.length(0, horizon - 1);
         Stream {
             counts,
             held: rng.pick(&[0, horizon - 1, between]),
@@ -62,6 +58,14 @@ impl Stream {
             window,
             more,
         }
+    }
+
+    fn drawn(rng: &mut Rng, more: bool) -> Stream {
+        let horizon = horizon(rng);
+        let any = rng.length(1, horizon);
+        let window = rng.pick(&[1, 16, 255, 256, horizon, any]).min(horizon);
+        let length = length(rng);
+        Stream::new(rng, horizon, window, more, length)
     }
 
     /// Figures that the stream keeps, and next to none that it keeps by more than so many.
@@ -88,59 +92,81 @@ impl Stream {
         pair
     }
 
-    fn verdict(&self) -> u32 {
-        self.window as u32 + if self.more { TOO_MANY } else { TOO_FEW }
+    /// The words of a state whose figures the last tick breaks, and no tick before it.
+    fn words(&self, rng: &mut Rng, broken: Broken) -> Vec<u32> {
+        let slack = rng.pick(&[0, 0, 1, 9]);
+        let mut given = match broken {
+            Broken::Closed => self.kept(rng, slack),
+            _ => self.broken(rng, slack),
+        };
+        let mut closed = match broken {
+            Broken::Given => self.kept(rng, slack),
+            _ => self.broken(rng, slack),
+        };
+        if broken == Broken::Leasts {
+            given = Pair::marked(&rng.arbitrary(self.horizon), &given.lower, 7);
+            closed = Pair::new(&rng.arbitrary(self.horizon), &closed.lower);
+        }
+        let mut words = state_words(given, closed, &self.counts[..self.held]);
+        if rng.one_in(2) {
+            built::fill_rest(rng, &mut words);
+        }
+        words
     }
-}
 
-/// The words that a stream is put to, and what its last tick must come to there.
-fn words_and_due(rng: &mut Rng, stream: &Stream) -> (Vec<u32>, u32) {
-    let broken = rng.pick(&[Broken::Given, Broken::Closed, Broken::Both]);
-    let slack = rng.pick(&[0, 0, 1, 9]);
-    let unlimited = !stream.more && rng.one_in(3);
-    let figures = |rng: &mut Rng, breaks: bool| match breaks {
-        true => stream.broken(rng, slack),
-        false => stream.kept(rng, slack),
-    };
-    let mut given = figures(rng, broken != Broken::Closed || unlimited);
-    let mut closed = figures(rng, broken != Broken::Given);
-    if unlimited {
-        given = Pair::marked(&rng.arbitrary(stream.horizon), &given.lower, 7);
-        closed = Pair::new(&rng.arbitrary(stream.horizon), &closed.lower);
+    /// What the last tick must come to, and as what it is tallied.
+    fn due(&self, broken: Broken) -> (u32, &'static str) {
+        let window = self.window as u32;
+        match broken {
+            Broken::Closed => (LOST, LONG_LOST),
+            Broken::Leasts => (TOO_FEW + window, LONG_UNLIMITED),
+            _ if self.more => (TOO_MANY + window, LONG_MANY),
+            _ => (TOO_FEW + window, LONG_FEW),
+        }
     }
-    let mut words = state_words(given, closed, &stream.counts[..stream.held]);
-    if rng.one_in(2) {
-        built::fill_rest(rng, &mut words);
-    }
-    let lost = broken == Broken::Closed && !unlimited;
-    (words, if lost { LOST } else { stream.verdict() })
-}
 
-fn note(due: u32, stream: &Stream, words: &[u32], tally: &mut Tally) {
-    let kind = match due - due % 1_000 {
-        _ if words[MARK_WORD] != 0 => LONG_UNLIMITED,
-        TOO_MANY => LONG_MANY,
-        TOO_FEW => LONG_FEW,
-        _ => LONG_LOST,
-    };
-    tally.note(kind, stream.window as u32);
+    /// The list in all ways in which it can be cut, or without the calls of single ticks.
+    fn check(&self, subject: &dyn Subject, rng: &mut Rng, broken: Broken, ticks: bool, tally: &mut Tally) -> Result<(), String> {
+        let words = self.words(rng, broken);
+        let mut counts = self.counts[self.held..].to_vec();
+        let last = counts.len() - 1;
+        counts.extend(rng.arbitrary(3));
+        let list = List::new(Kind::Monitor, &words, &counts)?;
+        let (due, tallied) = self.due(broken);
+        let (passed, rest) = list.trace.answers.split_at(last);
+        if passed.iter().any(|&answer| answer != PASSED) || rest[0] != due {
+            let lists = format!("words {words:?}\n  counts {counts:?}");
+            return Err(format!("the reference does not say {due} of tick {last}\n  {lists}"));
+        }
+        tally.note(tallied, self.window as u32);
+        match ticks {
+            true => list.check_cuts(subject, rng, tally),
+            false => list.check_pieces(subject, rng, tally),
+        }
+    }
 }
 
 pub fn compare_monitor(subject: &dyn Subject, rng: &mut Rng, tally: &mut Tally) -> Result<(), String> {
-    let stream = Stream::drawn(rng);
-    let (words, due) = words_and_due(rng, &stream);
-    let mut counts = stream.counts[stream.held..].to_vec();
-    let last = counts.len() - 1;
-    counts.extend(rng.arbitrary(3));
-    let list = List::new(Kind::Monitor, &words, &counts)?;
-    let (passed, rest) = list.trace.answers.split_at(last);
-    if passed.iter().any(|&answer| answer != PASSED) || rest[0] != due {
-        return Err(format!(
-            "the reference does not say {due} of tick {last}\n  words {words:?}\n  counts {counts:?}"
-        ));
+    let more = rng.one_in(2);
+    let last = if more { Broken::Both } else { Broken::Leasts };
+    let broken = rng.pick(&[Broken::Given, Broken::Closed, Broken::Both, last]);
+    Stream::drawn(rng, more).check(subject, rng, broken, true, tally)
+}
+
+/// Every window of the longest horizon in turn, on lists that are shorter.
+pub fn compare_every_window(subject: &dyn Subject, rng: &mut Rng, tally: &mut Tally) -> Result<(), String> {
+    for window in 1..=LONGEST_HORIZON {
+        let kinds = [
+            (Broken::Given, true),
+            (Broken::Given, false),
+            (Broken::Closed, rng.one_in(2)),
+            (Broken::Leasts, false),
+        ];
+        for (broken, more) in kinds {
+            Stream::new(rng, LONGEST_HORIZON, window, more, 600).check(subject, rng, broken, false, tally)?;
+        }
     }
-    note(due, &stream, &words, tally);
-    list.check_cuts(subject, rng, tally)
+    Ok(())
 }
 
 pub fn compare_generator(subject: &dyn Subject, rng: &mut Rng, tally: &mut Tally) -> Result<(), String> {

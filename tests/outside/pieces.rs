@@ -130,10 +130,16 @@ impl List<'_> {
         }
     }
 
+    /// Whole and in pieces.
+    pub fn check_pieces(&self, subject: &dyn Subject, rng: &mut Rng, tally: &mut Tally) -> Result<(), String> {
+        self.check(subject, rng, Cut::Whole, tally)?;
+        self.check(subject, rng, Cut::Pieces, tally)
+    }
+
     /// Cut in every way.
     pub fn check_cuts(&self, subject: &dyn Subject, rng: &mut Rng, tally: &mut Tally) -> Result<(), String> {
-        let cuts = [Cut::Whole, Cut::Pieces, Cut::Ticks];
-        cuts.into_iter().try_for_each(|cut| self.check(subject, rng, cut, tally))
+        self.check_pieces(subject, rng, tally)?;
+        self.check(subject, rng, Cut::Ticks, tally)
     }
 }
 
