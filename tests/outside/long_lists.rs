@@ -9,15 +9,16 @@ use crate::random::Rng;
 use crate::reference::Reference;
 use crate::script_cases::choices;
 use crate::sendings::check_passed;
-use crate::subject::{Subject, GENERATOR_WORDS, LONGEST_HORIZON, LOST, PASSED, TOO_FEW, TOO_MANY};
-use crate::tally::{horizon_end, Tally, LONG_FEW, LONG_LOST, LONG_MANY, LONG_SENT, LONG_UNLIMITED};
+use crate::streams::sum;
+use crate::subject::{Subject, GENERATOR_WORDS, LIMIT, LONGEST_HORIZON, LOST, PASSED, TOO_FEW, TOO_MANY};
+use crate::tally::{horizon_end, Tally, LONG_FEW, LONG_LOST, LONG_MANY, LONG_SENT, LONG_TOTAL, LONG_UNLIMITED};
 use crate::window_sums::{extremes, figures};
 use crate::words::Kind;
 use crate::{pairs, unlimited_pairs};
 
 fn horizon(rng: &mut Rng) -> usize {
-    let any = rng.length(1, LONGEST_HORIZON);
-    rng.pick(&[LONGEST_HORIZON, LONGEST_HORIZON, 255, 16, 17, any])
+    let (short, any) = (rng.length(1, 4), rng.length(1, LONGEST_HORIZON));
+    rng.pick(&[LONGEST_HORIZON, LONGEST_HORIZON, 255, 16, 17, short, any])
 }
 
 fn length(rng: &mut Rng) -> usize {
@@ -46,7 +47,8 @@ struct Stream {
 
 impl Stream {
     fn new(rng: &mut Rng, horizon: usize, window: usize, more: bool, length: usize) -> Stream {
-        let scale = rng.pick(&[1, 3, 50, 65_000]);
+        // The largest are such that no window has more than the limit; with a short horizon all ticks have more than 2^32 together.
+        let scale = rng.pick(&[1, 3, 50, LIMIT / horizon as u32 - 1]);
         let period: Vec<u32> = (0..window).map(|_| rng.between(1, scale)).collect();
         let mut counts: Vec<u32> = period.iter().copied().cycle().take(length).collect();
         counts[length - 1] = if more { counts[length - 1] + 1 } else { counts[length - 1] - 1 };
@@ -139,6 +141,7 @@ impl Stream {
             return Err(format!("the reference does not say {due} of tick {last}\n  {lists}"));
         }
         tally.note(tallied, self.window as u32);
+        tally.note(LONG_TOTAL, u32::from(sum(&counts[..last]) > u64::from(u32::MAX)));
         match ticks {
             true => list.check_cuts(subject, rng, tally),
             false => list.check_pieces(subject, rng, tally),

@@ -51,7 +51,7 @@ fn piece(rng: &mut Rng, cut: Cut, left: usize) -> Piece {
     Piece { entries, room, margins }
 }
 
-/// 0 none, 1 fewer than a number, 2 as many, 3 more; of none none counts as as many.
+/// How long a list is beside another: 0 without an entry, 1 shorter, 2 as long, 3 longer. Two without an entry are as long.
 fn compared_to(length: usize, other: usize) -> u32 {
     match length {
         _ if length == other => 2,
