@@ -1,6 +1,6 @@
 //! Reads a constraint text and closes its curves; opens a generator on the curves as written, which is refused, and on the closed ones,
-//! and judges the twenty ticks that it sends; then a stream that goes wrong, and a start that keeps the curves as written and is lost. At
-//! last a text with leasts alone.
+//! and judges the twenty ticks that it sends; then a stream that goes wrong, and a start that keeps the curves as written and is lost.
+//! After that a text with leasts alone; at last a million ticks in pieces.
 //!
 //!     rustc --edition 2021 examples/rust/traffic.rs -L native=target/staticlib -l static=exports -o target/traffic
 
@@ -24,25 +24,46 @@ extern "C" {
         lower: *mut u32,
         lower_length: usize,
     ) -> u64;
-    fn calgedze_judge(
+    fn calgedze_monitor_open(
         upper: *const u32,
         upper_length: usize,
         lower: *const u32,
         lower_length: usize,
         unlimited: u32,
-        script: *mut u32,
-        script_length: usize,
+        state: *mut u32,
+        state_length: usize,
     ) -> u32;
-    fn calgedze_generate(
+    fn calgedze_generator_open(
         upper: *const u32,
         upper_length: usize,
         lower: *const u32,
         lower_length: usize,
         unlimited: u32,
-        script: *mut u32,
-        script_length: usize,
+        state: *mut u32,
+        state_length: usize,
     ) -> u32;
+    fn calgedze_monitor_run(
+        state: *mut u32,
+        state_length: usize,
+        counts: *const u32,
+        counts_length: usize,
+        verdicts: *mut u32,
+        verdicts_length: usize,
+        margins: *mut i64,
+        margins_length: usize,
+    ) -> i64;
+    fn calgedze_generator_run(
+        state: *mut u32,
+        state_length: usize,
+        choices: *const u32,
+        choices_length: usize,
+        counts: *mut u32,
+        counts_length: usize,
+    ) -> i64;
 }
+
+const GENERATOR_WORDS: usize = 771;
+const MONITOR_WORDS: usize = 1_284;
 
 /// A refusal by its number.
 #[derive(Debug)]
@@ -55,6 +76,10 @@ struct Curves {
     lower: Vec<u32>,
     unlimited: u32,
 }
+
+/// States are words; what stands where is told in the header. A state changes with each list that it is given.
+struct Generator([u32; GENERATOR_WORDS]);
+struct Monitor([u32; MONITOR_WORDS]);
 
 enum Verdict {
     Passed,
@@ -72,11 +97,19 @@ fn value_and_mark(answer: u64) -> Result<(u32, u32), Refusal> {
     }
 }
 
-/// Only an opening can be refused as a whole.
-fn opened(number: u32) -> Result<(), Refusal> {
+/// An opening gives back 0 or the number of its refusal.
+fn opened<T>(number: u32, state: T) -> Result<T, Refusal> {
     match number {
-        0 => Ok(()),
+        0 => Ok(state),
         number => Err(Refusal(number)),
+    }
+}
+
+/// A run gives back the number of ticks, or that of its refusal, negative: 12, for words that are no state, which none of these are.
+fn ran(number: i64) -> Result<(), Refusal> {
+    match number {
+        0.. => Ok(()),
+        number => Err(Refusal(-number as u32)),
     }
 }
 
@@ -92,13 +125,9 @@ fn read(text: &[u8]) -> Result<Curves, Refusal> {
 }
 
 impl Curves {
-    fn horizon(&self) -> usize {
-        self.upper.len()
-    }
-
     /// The closed curves and the count of rounds that it took.
     fn close(&self) -> Result<(Curves, u32), Refusal> {
-        let horizon = self.horizon();
+        let horizon = self.upper.len();
         let mut closed = Curves {
             upper: vec![0; horizon],
             lower: vec![0; horizon],
@@ -124,22 +153,53 @@ impl Curves {
         Ok((closed, rounds))
     }
 
-    /// The counts that a generator sends for these choices. It opens on closed curves only.
-    fn generate(&self, choices: &[u32]) -> Result<Vec<u32>, Refusal> {
-        let mut script = choices.to_vec();
-        let (upper, lower, horizon) = (self.upper.as_ptr(), self.lower.as_ptr(), self.horizon());
+    /// It opens on closed curves only.
+    fn generator(&self) -> Result<Generator, Refusal> {
+        let mut state = Generator([0; GENERATOR_WORDS]);
+        let (upper, lower, horizon, words) = (self.upper.as_ptr(), self.lower.as_ptr(), self.upper.len(), state.0.as_mut_ptr());
         // SAFETY: each pointer goes with the length of its list.
-        opened(unsafe { calgedze_generate(upper, horizon, lower, horizon, self.unlimited, script.as_mut_ptr(), script.len()) })?;
-        Ok(script)
+        let number = unsafe { calgedze_generator_open(upper, horizon, lower, horizon, self.unlimited, words, GENERATOR_WORDS) };
+        opened(number, state)
     }
 
-    /// What a monitor says of these counts.
-    fn judge(&self, counts: &[u32]) -> Result<Vec<Verdict>, Refusal> {
-        let mut script = counts.to_vec();
-        let (upper, lower, horizon) = (self.upper.as_ptr(), self.lower.as_ptr(), self.horizon());
+    fn monitor(&self) -> Result<Monitor, Refusal> {
+        let mut state = Monitor([0; MONITOR_WORDS]);
+        let (upper, lower, horizon, words) = (self.upper.as_ptr(), self.lower.as_ptr(), self.upper.len(), state.0.as_mut_ptr());
         // SAFETY: each pointer goes with the length of its list.
-        opened(unsafe { calgedze_judge(upper, horizon, lower, horizon, self.unlimited, script.as_mut_ptr(), script.len()) })?;
-        Ok(script.into_iter().map(verdict).collect())
+        let number = unsafe { calgedze_monitor_open(upper, horizon, lower, horizon, self.unlimited, words, MONITOR_WORDS) };
+        opened(number, state)
+    }
+}
+
+impl Generator {
+    /// The counts that it sends for these choices. One that was opened always has a count to send.
+    fn send(&mut self, choices: &[u32]) -> Result<Vec<u32>, Refusal> {
+        let (words, ticks, mut counts) = (self.0.as_mut_ptr(), choices.len(), vec![0; choices.len()]);
+        // SAFETY: each pointer goes with the length of its list, and the two lists that are written are apart from the others.
+        ran(unsafe { calgedze_generator_run(words, GENERATOR_WORDS, choices.as_ptr(), ticks, counts.as_mut_ptr(), ticks) })?;
+        Ok(counts)
+    }
+}
+
+impl Monitor {
+    /// What it says of these counts, and how near each tick comes to the curves as they were given.
+    fn judge(&mut self, counts: &[u32]) -> Result<Vec<(Verdict, i64)>, Refusal> {
+        let ticks = counts.len();
+        let (mut verdicts, mut margins) = (vec![0; ticks], vec![0; ticks]);
+        // SAFETY: each pointer goes with the length of its list, and the three lists that are written are apart from the others.
+        ran(unsafe {
+            calgedze_monitor_run(
+                self.0.as_mut_ptr(),
+                MONITOR_WORDS,
+                counts.as_ptr(),
+                ticks,
+                verdicts.as_mut_ptr(),
+                ticks,
+                margins.as_mut_ptr(),
+                ticks,
+            )
+        })?;
+        Ok(verdicts.into_iter().map(verdict).zip(margins).collect())
     }
 }
 
@@ -150,7 +210,7 @@ fn verdict(entry: u32) -> Verdict {
         2_001..=2_256 => Verdict::TooFew(entry - 2_000),
         3_000 => Verdict::AlreadyFailed,
         4_000 => Verdict::Lost,
-        _ => unreachable!("no other answer of a monitor comes up in a script"),
+        _ => unreachable!("a monitor has no other answer"),
     }
 }
 
@@ -161,14 +221,17 @@ fn print_curves(name: &str, curves: &Curves) {
     }
 }
 
-fn print_verdicts(counts: &[u32], verdicts: &[Verdict]) {
-    let passed = verdicts.iter().filter(|verdict| matches!(verdict, Verdict::Passed)).count();
-    println!("{passed} of {} ticks passed", verdicts.len());
-    for (tick, (count, verdict)) in counts.iter().zip(verdicts).enumerate() {
+fn passed(verdicts: &[(Verdict, i64)]) -> usize {
+    verdicts.iter().filter(|(verdict, _)| matches!(verdict, Verdict::Passed)).count()
+}
+
+fn print_verdicts(counts: &[u32], verdicts: &[(Verdict, i64)]) {
+    println!("{} of {} ticks passed", passed(verdicts), verdicts.len());
+    for (tick, (count, (verdict, margin))) in counts.iter().zip(verdicts).enumerate() {
         match verdict {
             Verdict::Passed => {}
-            Verdict::TooMany(window) => println!("tick {tick}, count {count}: too many in the window of {window} ending there"),
-            Verdict::TooFew(window) => println!("tick {tick}, count {count}: too few in the window of {window} ending there"),
+            Verdict::TooMany(window) => println!("tick {tick}, count {count}: too many in the window of {window}, margin {margin}"),
+            Verdict::TooFew(window) => println!("tick {tick}, count {count}: too few in the window of {window}, margin {margin}"),
             Verdict::Lost => println!("tick {tick}, count {count}: lost, no stream that goes on begins like this"),
             Verdict::AlreadyFailed => println!("tick {tick}, count {count}: already failed"),
         }
@@ -184,22 +247,23 @@ fn run() -> Result<(), Refusal> {
     println!("rounds that changed a figure: {rounds}");
 
     let choices: Vec<u32> = (0..20).map(|tick| 7 * tick * tick + 3).collect();
-    if let Err(Refusal(number)) = given.generate(&choices) {
+    if let Err(Refusal(number)) = given.generator() {
         println!("a generator on the curves as written: refused with {number}");
     }
-    let sent = closed.generate(&choices)?;
+    let sent = closed.generator()?.send(&choices)?;
     println!("sent: {sent:?}");
-    print_verdicts(&sent, &closed.judge(&sent)?);
+    print_verdicts(&sent, &closed.monitor()?.judge(&sent)?);
 
     // The same traffic with two messages missing in tick 16: every window up to 7 ticks still has enough.
     let mut wrong = sent;
     wrong[16] -= 2;
-    print_verdicts(&wrong, &closed.judge(&wrong)?);
+    print_verdicts(&wrong, &closed.monitor()?.judge(&wrong)?);
 
     // On the curves as written: 3 in four ticks keep every figure so far, but the next four have 6 at most, and eight need 10.
     let start = [2, 0, 1, 0, 2, 1];
-    print_verdicts(&start, &given.judge(&start)?);
-    sporadic()
+    print_verdicts(&start, &given.monitor()?.judge(&start)?);
+    sporadic()?;
+    long_stream(&given, &closed)
 }
 
 /// A bus with leasts alone: 2 in three ticks, 4 in five. No count is too many, and no stream is lost.
@@ -210,10 +274,30 @@ fn sporadic() -> Result<(), Refusal> {
     print_curves("closed", &closed);
     println!("rounds that changed a figure: {rounds}");
     // A choice of 0 is the fewest messages that keep every window; one of 16,776,960 sends as many where the fewest is 0, as here.
-    let sent = closed.generate(&[0, 0, 0, 0, 0, 0, 16_776_960, 0, 0, 0])?;
+    let sent = closed.generator()?.send(&[0, 0, 0, 0, 0, 0, 16_776_960, 0, 0, 0])?;
     println!("sent: {sent:?}");
     let heard = [4_000_000_000, 0, 0, 1, 0, 3];
-    print_verdicts(&heard, &given.judge(&heard)?);
+    print_verdicts(&heard, &given.monitor()?.judge(&heard)?);
+    Ok(())
+}
+
+/// A thousand lists of a thousand ticks each, on one generator and one monitor: pieces of one stream. The monitor is opened on the curves
+/// as written, and passes all that keeps the closed ones.
+fn long_stream(given: &Curves, closed: &Curves) -> Result<(), Refusal> {
+    let (mut generator, mut monitor) = (closed.generator()?, given.monitor()?);
+    let (mut messages, mut rejected, mut number) = (0, 0, 1u32);
+    for _ in 0..1_000 {
+        let choices: Vec<u32> = (0..1_000)
+            .map(|_| {
+                number = number.wrapping_mul(1_664_525).wrapping_add(1_013_904_223);
+                number >> 8
+            })
+            .collect();
+        let sent = generator.send(&choices)?;
+        messages += sent.iter().sum::<u32>();
+        rejected += sent.len() - passed(&monitor.judge(&sent)?);
+    }
+    println!("1000000 ticks in pieces of 1000: {messages} messages sent, {rejected} ticks rejected");
     Ok(())
 }
 

@@ -1,8 +1,9 @@
 //! The fastest forms as contenders: built for any machine, and built with wider instructions.
 
-use crate::contender::Contender;
-use crate::fastest::{close_core, generate_core, judge_core, read_core};
+use crate::contender::{Contender, State};
+use crate::fastest::{close_core, generate_core, generator_core, judge_core, monitor, read_core, Generator, Monitor};
 use crate::plain;
+use crate::subject::{refusal_of, LONGEST_HORIZON};
 
 /// What the questions refuse is not timed.
 fn taken(upper: &[u32], lower: &[u32]) -> bool {
@@ -16,27 +17,68 @@ pub fn close(upper: &[u32], lower: &[u32], closed_upper: &mut [u32], closed_lowe
     close_core(upper, lower, closed_upper, closed_lower)
 }
 
-pub fn judge(upper: &[u32], lower: &[u32], script: &mut [u32]) -> u32 {
-    if !taken(upper, lower) {
-        return plain::judge(upper, lower, script);
-    }
-    judge_core(upper, lower, script)
-}
-
-pub fn generate(upper: &[u32], lower: &[u32], script: &mut [u32]) -> u32 {
-    if !taken(upper, lower) {
-        return plain::generate(upper, lower, script);
-    }
-    generate_core(upper, lower, script)
-}
-
 pub fn read(text: &[u8], upper: &mut [u32], lower: &mut [u32]) -> u64 {
     read_core(text, upper, lower)
 }
 
+/// A state with the build that it is run by.
+struct Judge {
+    state: Monitor,
+    run: fn(&mut Monitor, &[u32], &mut [u32], &mut [i64]),
+}
+
+struct Sender {
+    state: Generator,
+    run: fn(&mut Generator, &[u32], &mut [u32]),
+}
+
+impl State for Judge {
+    fn run(&mut self, counts: &[u32], verdicts: &mut [u32], margins: &mut [i64]) {
+        (self.run)(&mut self.state, counts, verdicts, margins);
+    }
+}
+
+impl State for Sender {
+    fn run(&mut self, choices: &[u32], counts: &mut [u32], _: &mut [i64]) {
+        (self.run)(&mut self.state, choices, counts);
+    }
+}
+
+/// No opening of a monitor is timed, so all builds have the same.
+fn opened(upper: &[u32], lower: &[u32]) -> Result<Monitor, u32> {
+    let (mut closed_upper, mut closed_lower) = ([0; LONGEST_HORIZON], [0; LONGEST_HORIZON]);
+    match refusal_of(close(upper, lower, &mut closed_upper, &mut closed_lower)) {
+        0 => Ok(monitor(upper, lower, &closed_upper[..upper.len()], &closed_lower[..upper.len()])),
+        number => Err(number),
+    }
+}
+
+fn judge(state: &mut Monitor, counts: &[u32], verdicts: &mut [u32], margins: &mut [i64]) {
+    judge_core(state, counts, verdicts, margins);
+}
+
+fn generate(state: &mut Generator, choices: &[u32], counts: &mut [u32]) {
+    generate_core(state, choices, counts);
+}
+
+pub fn open_monitor(upper: &[u32], lower: &[u32]) -> Result<Box<dyn State>, u32> {
+    let state = opened(upper, lower)?;
+    Ok(Box::new(Judge { state, run: judge }))
+}
+
+pub fn open_generator(upper: &[u32], lower: &[u32]) -> Result<Box<dyn State>, u32> {
+    match plain::opening(upper, lower) {
+        0 => {
+            let state = generator_core(upper, lower).ok_or(15u32)?;
+            Ok(Box::new(Sender { state, run: generate }))
+        }
+        number => Err(number),
+    }
+}
+
 #[cfg(target_arch = "x86_64")]
 mod wide {
-    use super::{close_core, generate_core, judge_core, read_core};
+    use super::{close_core, generate_core, generator_core, judge_core, read_core, Generator, Monitor};
 
     #[target_feature(enable = "avx2")]
     pub fn close(upper: &[u32], lower: &[u32], closed_upper: &mut [u32], closed_lower: &mut [u32]) -> u64 {
@@ -44,13 +86,18 @@ mod wide {
     }
 
     #[target_feature(enable = "avx2")]
-    pub fn judge(upper: &[u32], lower: &[u32], script: &mut [u32]) -> u32 {
-        judge_core(upper, lower, script)
+    pub fn judge(state: &mut Monitor, counts: &[u32], verdicts: &mut [u32], margins: &mut [i64]) {
+        judge_core(state, counts, verdicts, margins);
     }
 
     #[target_feature(enable = "avx2")]
-    pub fn generate(upper: &[u32], lower: &[u32], script: &mut [u32]) -> u32 {
-        generate_core(upper, lower, script)
+    pub fn open(upper: &[u32], lower: &[u32]) -> Option<Generator> {
+        generator_core(upper, lower)
+    }
+
+    #[target_feature(enable = "avx2")]
+    pub fn generate(state: &mut Generator, choices: &[u32], counts: &mut [u32]) {
+        generate_core(state, choices, counts);
     }
 
     #[target_feature(enable = "avx2")]
@@ -59,7 +106,7 @@ mod wide {
     }
 }
 
-/// The build with wider instructions, where the machine has them. The cases that are timed pass every question.
+/// The build with wider instructions, where the machine has them. The pairs that are opened on pass the questions 1, 2 and 4.
 #[cfg(target_arch = "x86_64")]
 pub fn with_avx2() -> Option<Contender> {
     if !std::arch::is_x86_feature_detected!("avx2") {
@@ -69,8 +116,18 @@ pub fn with_avx2() -> Option<Contender> {
     Some(Contender {
         name: "with avx2",
         close: |upper, lower, closed_upper, closed_lower| unsafe { wide::close(upper, lower, closed_upper, closed_lower) },
-        judge: |upper, lower, script| unsafe { wide::judge(upper, lower, script) },
-        generate: |upper, lower, script| unsafe { wide::generate(upper, lower, script) },
+        monitor: |upper, lower| {
+            let run = |state: &mut Monitor, counts: &[u32], verdicts: &mut [u32], margins: &mut [i64]| unsafe {
+                wide::judge(state, counts, verdicts, margins)
+            };
+            let state = opened(upper, lower)?;
+            Ok(Box::new(Judge { state, run }))
+        },
+        generator: |upper, lower| {
+            let run = |state: &mut Generator, choices: &[u32], counts: &mut [u32]| unsafe { wide::generate(state, choices, counts) };
+            let state = unsafe { wide::open(upper, lower) }.ok_or(15u32)?;
+            Ok(Box::new(Sender { state, run }))
+        },
         read: |text, upper, lower| unsafe { wide::read(text, upper, lower) },
     })
 }

@@ -1,63 +1,115 @@
 //! What is timed. Each case gives back all that it got, so that the contenders' results can be compared.
 
-use crate::contender::Contender;
+use std::time::{Duration, Instant};
+
+use crate::contender::{Contender, State};
 use crate::product::Product;
 use crate::subject::{Subject, LIMIT};
 
+/// How many ticks a list has, and how many are called one by one.
 const TICKS: usize = 200_000;
+const SINGLE_TICKS: usize = 20_000;
 
 pub struct Case {
     pub name: &'static str,
-    /// How many operations one run has.
+    /// How many operations one run has: calls, or ticks.
     pub calls: usize,
-    pub run: fn(&Case, &Contender) -> Vec<u32>,
+    pub run: fn(&Case, &Contender) -> Outcome,
     upper: Vec<u32>,
     lower: Vec<u32>,
-    script: Vec<u32>,
+    list: Vec<u32>,
     text: Vec<u8>,
 }
 
-fn close(case: &Case, contender: &Contender) -> Vec<u32> {
+/// What came of a run, and what it took.
+pub struct Outcome {
+    pub results: Vec<u32>,
+    pub time: Duration,
+}
+
+fn timed(work: impl FnOnce()) -> Duration {
+    let start = Instant::now();
+    work();
+    start.elapsed()
+}
+
+fn close(case: &Case, contender: &Contender) -> Outcome {
     let horizon = case.upper.len();
-    let (mut closed_upper, mut closed_lower) = (vec![0; horizon], vec![0; horizon]);
+    let (mut results, mut closed_lower) = (vec![0; horizon], vec![0; horizon]);
     let mut rounds = 0;
-    for _ in 0..case.calls {
-        rounds = (contender.close)(&case.upper, &case.lower, &mut closed_upper, &mut closed_lower);
-    }
-    closed_upper.extend(closed_lower);
-    closed_upper.push(rounds as u32);
-    closed_upper
+    let time = timed(|| {
+        for _ in 0..case.calls {
+            rounds = (contender.close)(&case.upper, &case.lower, &mut results, &mut closed_lower);
+        }
+    });
+    results.extend(closed_lower);
+    results.push(rounds as u32);
+    Outcome { results, time }
 }
 
-fn judge(case: &Case, contender: &Contender) -> Vec<u32> {
-    let mut script = case.script.clone();
-    (contender.judge)(&case.upper, &case.lower, &mut script);
-    script
+/// A list on a state that was opened before, which is not timed: what is answered, or the number of the refusal.
+fn run_list(case: &Case, opened: Result<Box<dyn State>, u32>, margins: usize) -> Outcome {
+    let (mut results, mut margins) = (vec![0; case.list.len()], vec![0; margins]);
+    let time = match opened {
+        Ok(mut state) => timed(|| state.run(&case.list, &mut results, &mut margins)),
+        Err(number) => {
+            results = vec![number];
+            Duration::ZERO
+        }
+    };
+    results.extend(margins.iter().map(|&margin| margin as u32));
+    Outcome { results, time }
 }
 
-fn generate(case: &Case, contender: &Contender) -> Vec<u32> {
-    let mut script = case.script.clone();
-    let number = (contender.generate)(&case.upper, &case.lower, &mut script);
-    script.push(number);
-    script
+fn judge(case: &Case, contender: &Contender) -> Outcome {
+    run_list(case, (contender.monitor)(&case.upper, &case.lower), 0)
+}
+
+fn judge_with_margins(case: &Case, contender: &Contender) -> Outcome {
+    run_list(case, (contender.monitor)(&case.upper, &case.lower), case.list.len())
+}
+
+fn generate(case: &Case, contender: &Contender) -> Outcome {
+    run_list(case, (contender.generator)(&case.upper, &case.lower), 0)
+}
+
+/// The same, one tick after the other, each on the state that came back. What is opened on here is not refused.
+fn run_each(case: &Case, opened: Result<Box<dyn State>, u32>) -> Outcome {
+    let mut results = vec![0; case.list.len()];
+    let time = opened.map_or(Duration::ZERO, |mut state| timed(|| state.run_each(&case.list, &mut results)));
+    Outcome { results, time }
+}
+
+fn judge_each(case: &Case, contender: &Contender) -> Outcome {
+    run_each(case, (contender.monitor)(&case.upper, &case.lower))
+}
+
+fn generate_each(case: &Case, contender: &Contender) -> Outcome {
+    run_each(case, (contender.generator)(&case.upper, &case.lower))
 }
 
 /// A generator opened again and again, without a tick: what the questions take.
-fn open_generator(case: &Case, contender: &Contender) -> Vec<u32> {
-    (0..case.calls)
-        .map(|_| (contender.generate)(&case.upper, &case.lower, &mut []))
-        .collect()
+fn open_generator(case: &Case, contender: &Contender) -> Outcome {
+    let mut results = vec![1; case.calls];
+    let time = timed(|| {
+        for entry in &mut results {
+            *entry = (contender.generator)(&case.upper, &case.lower).err().unwrap_or(0);
+        }
+    });
+    Outcome { results, time }
 }
 
-fn read(case: &Case, contender: &Contender) -> Vec<u32> {
-    let (mut upper, mut lower) = (vec![0; 256], vec![0; 256]);
+fn read(case: &Case, contender: &Contender) -> Outcome {
+    let (mut results, mut lower) = (vec![0; 256], vec![0; 256]);
     let mut horizon = 0;
-    for _ in 0..case.calls {
-        horizon = (contender.read)(&case.text, &mut upper, &mut lower);
-    }
-    upper.extend(lower);
-    upper.push(horizon as u32);
-    upper
+    let time = timed(|| {
+        for _ in 0..case.calls {
+            horizon = (contender.read)(&case.text, &mut results, &mut lower);
+        }
+    });
+    results.extend(lower);
+    results.push(horizon as u32);
+    Outcome { results, time }
 }
 
 fn closing(name: &'static str, upper: Vec<u32>, lower: Vec<u32>) -> Case {
@@ -67,7 +119,7 @@ fn closing(name: &'static str, upper: Vec<u32>, lower: Vec<u32>) -> Case {
         run: close,
         upper,
         lower,
-        script: Vec::new(),
+        list: Vec::new(),
         text: Vec::new(),
     }
 }
@@ -126,7 +178,7 @@ fn generator(name: &'static str, horizon: u32) -> Case {
         run: generate,
         upper,
         lower,
-        script: choices(),
+        list: choices(),
         text: Vec::new(),
     }
 }
@@ -134,12 +186,26 @@ fn generator(name: &'static str, horizon: u32) -> Case {
 /// The stream that a generator sends on the same curves, so that every tick is passed and every window judged.
 fn monitor(name: &'static str, horizon: u32) -> Case {
     let mut case = generator(name, horizon);
-    Product.generate(&case.upper, &case.lower, 0, &mut case.script);
+    Product.generate(&case.upper, &case.lower, 0, &mut case.list);
     case.run = judge;
     case
 }
 
-/// Pairs that no generator opens on: with a ceiling that is loose, or a least, and two without a closure. The choices stay.
+/// With the margin of each tick.
+fn with_margins(mut case: Case) -> Case {
+    case.run = judge_with_margins;
+    case
+}
+
+/// The first ticks of a case, each by a call of its own.
+fn each(mut case: Case, run: fn(&Case, &Contender) -> Outcome) -> Case {
+    case.list.truncate(SINGLE_TICKS);
+    case.calls = SINGLE_TICKS;
+    case.run = run;
+    case
+}
+
+/// Pairs that no generator opens on: with a ceiling that is loose, or a least, and two without a closure.
 pub fn not_closed() -> Vec<Case> {
     let pairs: [(&str, [u32; 3], [u32; 3]); 4] = [
         ("generator, a loose ceiling", [1, 2, 4], [0, 0, 0]),
@@ -153,7 +219,7 @@ pub fn not_closed() -> Vec<Case> {
         run: generate,
         upper: upper.to_vec(),
         lower: lower.to_vec(),
-        script: vec![1, 2],
+        list: vec![1, 2],
         text: Vec::new(),
     };
     pairs.into_iter().map(case).collect()
@@ -176,7 +242,7 @@ fn reading(name: &'static str, with_most: bool) -> Case {
         run: read,
         upper: Vec::new(),
         lower: Vec::new(),
-        script: Vec::new(),
+        list: Vec::new(),
         text,
     }
 }
@@ -192,10 +258,10 @@ pub fn rejected() -> Vec<Case> {
     let case = |(name, counts): (&'static str, &[u32])| Case {
         name,
         calls: counts.len(),
-        run: judge,
+        run: judge_with_margins,
         upper: vec![5, 3],
         lower: vec![0, 2],
-        script: counts.to_vec(),
+        list: counts.to_vec(),
         text: Vec::new(),
     };
     streams.into_iter().map(case).collect()
@@ -207,10 +273,16 @@ pub fn all() -> Vec<Case> {
         closing_a_text(),
         closing_closed_curves(),
         opening(),
-        monitor("monitor tick, 256", 256),
-        monitor("monitor tick, 16", 16),
-        generator("generator tick, 256", 256),
-        generator("generator tick, 16", 16),
+        monitor("monitor list, 256", 256),
+        monitor("monitor list, 16", 16),
+        with_margins(monitor("the same with margins, 256", 256)),
+        with_margins(monitor("the same with margins, 16", 16)),
+        generator("generator list, 256", 256),
+        generator("generator list, 16", 16),
+        each(monitor("monitor one tick, 256", 256), judge_each),
+        each(monitor("monitor one tick, 16", 16), judge_each),
+        each(generator("generator one tick, 256", 256), generate_each),
+        each(generator("generator one tick, 16", 16), generate_each),
         reading("reading, 256 records", true),
         reading("reading, 256, no most", false),
     ]

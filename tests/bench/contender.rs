@@ -1,20 +1,66 @@
 //! Those whose times are compared.
 
 use crate::product::Product;
-use crate::subject::Subject;
+use crate::subject::{Subject, GENERATOR_WORDS, MONITOR_WORDS};
 use crate::{builds, plain};
 
-/// All with ceilings: the mark of a pair is not set, and no closing, judging or generating without them is timed.
+/// A monitor or a generator that was opened. Each contender keeps it in a form of its own.
+pub trait State {
+    /// A list in one call, and the margins of as many ticks as there is room for.
+    fn run(&mut self, list: &[u32], answers: &mut [u32], margins: &mut [i64]);
+
+    /// A call for each entry, on the state that the one before it left.
+    fn run_each(&mut self, list: &[u32], answers: &mut [u32]) {
+        for place in 0..list.len() {
+            self.run(&list[place..=place], &mut answers[place..=place], &mut []);
+        }
+    }
+}
+
+/// All with ceilings: the mark of a pair is not set, and no closing, opening or list without them is timed. An opening that is refused
+/// gives its number.
 type Close = fn(&[u32], &[u32], &mut [u32], &mut [u32]) -> u64;
-type Script = fn(&[u32], &[u32], &mut [u32]) -> u32;
+type Open = fn(&[u32], &[u32]) -> Result<Box<dyn State>, u32>;
 type Read = fn(&[u8], &mut [u32], &mut [u32]) -> u64;
 
 pub struct Contender {
     pub name: &'static str,
     pub close: Close,
-    pub judge: Script,
-    pub generate: Script,
+    pub monitor: Open,
+    pub generator: Open,
     pub read: Read,
+}
+
+/// The product's states are words.
+struct Monitor([u32; MONITOR_WORDS]);
+struct Generator([u32; GENERATOR_WORDS]);
+
+impl State for Monitor {
+    fn run(&mut self, list: &[u32], answers: &mut [u32], margins: &mut [i64]) {
+        Product.run_monitor(&mut self.0, list, answers, margins);
+    }
+}
+
+impl State for Generator {
+    fn run(&mut self, list: &[u32], answers: &mut [u32], _: &mut [i64]) {
+        Product.run_generator(&mut self.0, list, answers);
+    }
+}
+
+fn open_monitor(upper: &[u32], lower: &[u32]) -> Result<Box<dyn State>, u32> {
+    let mut state = Box::new(Monitor([0; MONITOR_WORDS]));
+    match Product.open_monitor(upper, lower, 0, &mut state.0) {
+        0 => Ok(state),
+        number => Err(number),
+    }
+}
+
+fn open_generator(upper: &[u32], lower: &[u32]) -> Result<Box<dyn State>, u32> {
+    let mut state = Box::new(Generator([0; GENERATOR_WORDS]));
+    match Product.open_generator(upper, lower, 0, &mut state.0) {
+        0 => Ok(state),
+        number => Err(number),
+    }
 }
 
 /// The product first. The last runs only where the machine has the instructions.
@@ -23,22 +69,22 @@ pub fn all() -> Vec<Contender> {
         Contender {
             name: "product",
             close: |upper, lower, closed_upper, closed_lower| Product.close(upper, lower, 0, closed_upper, closed_lower),
-            judge: |upper, lower, script| Product.judge(upper, lower, 0, script),
-            generate: |upper, lower, script| Product.generate(upper, lower, 0, script),
+            monitor: open_monitor,
+            generator: open_generator,
             read: |text, upper, lower| Product.read(text, upper, lower),
         },
         Contender {
             name: "plain",
             close: plain::close,
-            judge: plain::judge,
-            generate: plain::generate,
+            monitor: plain::open_monitor,
+            generator: plain::open_generator,
             read: plain::read,
         },
         Contender {
             name: "fastest",
             close: builds::close,
-            judge: builds::judge,
-            generate: builds::generate,
+            monitor: builds::open_monitor,
+            generator: builds::open_generator,
             read: builds::read,
         },
     ];

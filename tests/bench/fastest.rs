@@ -1,11 +1,13 @@
 //! The fastest forms that were found, in integers: closing with the windows of one block side by side in registers and the parts outside,
-//! scripts on running sums without an exit in the middle, reading in one pass with no search for the ends of lines. All are inlined into
+//! lists on running sums without an exit in the middle, reading in one pass with no search for the ends of lines. All are inlined into
 //! the builds that use them. Closing compares integers, where the product compares floats: it stays so, as the measure that earlier
 //! ratios were taken by.
+//!
+//! A state is changed in place, and only what was opened here can be one, so that question 12 is not asked of it.
 
 use crate::plain;
 use crate::ring::Ring;
-use crate::subject::{answered, refusal_of, refused, ALREADY_FAILED, HEADER, LIMIT, LONGEST_HORIZON, LOST, PASSED, TOO_FEW, TOO_MANY};
+use crate::subject::{answered, refused, ALREADY_FAILED, HEADER, LIMIT, LONGEST_HORIZON, LOST, PASSED, TOO_FEW, TOO_MANY};
 
 /// Windows of one block.
 const BLOCK: usize = 32;
@@ -115,46 +117,91 @@ fn outside(ring: &Ring, upper: &[u32], lower: &[u32], count: u32) -> bool {
     found
 }
 
-/// Only once in a script: which window it was.
-fn verdict(ring: &Ring, upper: &[u32], lower: &[u32], count: u32) -> u32 {
+/// The smallest margin where no sum passes 32 bits.
+#[inline(always)]
+fn margin(ring: &Ring, upper: &[u32], lower: &[u32], count: u32) -> i32 {
     let (before, latest) = ring.before();
+    let next = latest.wrapping_add(count as i32);
+    let mut smallest = i32::MAX;
+    for ((sum, upper), lower) in before.iter().zip(upper).zip(lower) {
+        let window = next.wrapping_sub(*sum);
+        smallest = smallest.min(*upper as i32 - window).min(window - *lower as i32);
+    }
+    smallest
+}
+
+/// Only once in a list: which window it was, and the margin of the tick.
+fn verdict_and_margin(ring: &Ring, upper: &[u32], lower: &[u32], count: u32) -> (u32, i64) {
+    let (before, latest) = ring.before();
+    let (mut verdict, mut smallest) = (PASSED, i64::MAX);
     for (place, sum) in before.iter().enumerate() {
         let window = i64::from(latest.wrapping_sub(*sum)) + i64::from(count);
-        if window > i64::from(upper[place]) {
-            return TOO_MANY + 1 + place as u32;
-        }
-        if window < i64::from(lower[place]) {
-            return TOO_FEW + 1 + place as u32;
+        let (above, below) = (i64::from(upper[place]) - window, window - i64::from(lower[place]));
+        smallest = smallest.min(above).min(below);
+        if verdict == PASSED && above.min(below) < 0 {
+            verdict = 1 + place as u32 + if above < 0 { TOO_MANY } else { TOO_FEW };
         }
     }
-    PASSED
+    (verdict, smallest)
+}
+
+pub struct Monitor {
+    upper: [u32; LONGEST_HORIZON],
+    lower: [u32; LONGEST_HORIZON],
+    closed_upper: [u32; LONGEST_HORIZON],
+    closed_lower: [u32; LONGEST_HORIZON],
+    horizon: usize,
+    ring: Ring,
+    failed: bool,
+}
+
+fn padded(figures: &[u32]) -> [u32; LONGEST_HORIZON] {
+    let mut list = [0; LONGEST_HORIZON];
+    list[..figures.len()].copy_from_slice(figures);
+    list
+}
+
+/// On a pair that the questions do not refuse, with its closure.
+pub fn monitor(upper: &[u32], lower: &[u32], closed_upper: &[u32], closed_lower: &[u32]) -> Monitor {
+    Monitor {
+        upper: padded(upper),
+        lower: padded(lower),
+        closed_upper: padded(closed_upper),
+        closed_lower: padded(closed_lower),
+        horizon: upper.len(),
+        ring: Ring::new(upper.len()),
+        failed: false,
+    }
 }
 
 /// No closed figure is looser than the one it closes, so a tick that keeps the closed curves keeps those as given: one pass over the
-/// closed ones tells what passes, and the others are looked at only once, for what the first that does not pass is called.
+/// closed ones tells what passes, and the others are looked at only once, for what the first that does not pass is called. Margins, where
+/// they are asked for, take a pass of their own over those as given: the simple way, which vectorises.
 #[inline(always)]
-pub fn judge_core(upper: &[u32], lower: &[u32], script: &mut [u32]) -> u32 {
-    let horizon = upper.len();
-    let (mut closed_upper, mut closed_lower) = ([0; LONGEST_HORIZON], [0; LONGEST_HORIZON]);
-    let number = refusal_of(close_core(upper, lower, &mut closed_upper[..horizon], &mut closed_lower[..horizon]));
-    if number != 0 {
-        return number;
-    }
-    let mut ring = Ring::new(horizon);
-    for tick in 0..script.len() {
-        let count = script[tick];
-        if count > LIMIT || outside(&ring, &closed_upper[..horizon], &closed_lower[..horizon], count) {
-            script[tick] = match verdict(&ring, upper, lower, count) {
-                PASSED => LOST,
-                verdict => verdict,
-            };
-            script[tick + 1..].fill(ALREADY_FAILED);
-            break;
+pub fn judge_core(monitor: &mut Monitor, counts: &[u32], verdicts: &mut [u32], margins: &mut [i64]) {
+    let (upper, lower) = (&monitor.upper[..monitor.horizon], &monitor.lower[..monitor.horizon]);
+    let closed = (&monitor.closed_upper[..monitor.horizon], &monitor.closed_lower[..monitor.horizon]);
+    let ring = &mut monitor.ring;
+    for (place, &count) in counts.iter().enumerate() {
+        if monitor.failed {
+            verdicts[place..].fill(ALREADY_FAILED);
+            margins.iter_mut().skip(place).for_each(|margin| *margin = 0);
+            return;
+        }
+        let smallest = margins.get_mut(place);
+        if count > LIMIT || outside(ring, closed.0, closed.1, count) {
+            let (verdict, found) = verdict_and_margin(ring, upper, lower, count);
+            verdicts[place] = if verdict == PASSED { LOST } else { verdict };
+            smallest.into_iter().for_each(|entry| *entry = found);
+            monitor.failed = true;
+            continue;
+        }
+        if let Some(entry) = smallest {
+            *entry = i64::from(margin(ring, upper, lower, count));
         }
         ring.hold(count);
-        script[tick] = PASSED;
+        verdicts[place] = PASSED;
     }
-    0
 }
 
 #[inline(always)]
@@ -176,20 +223,34 @@ fn is_own_closure(upper: &[u32], lower: &[u32]) -> bool {
     !crosses && !round(&mut curve(upper, FAR), &mut curve(lower, -FAR), upper.len())
 }
 
+pub struct Generator {
+    upper: [u32; LONGEST_HORIZON],
+    lower: [u32; LONGEST_HORIZON],
+    horizon: usize,
+    ring: Ring,
+}
+
+/// On a pair that the questions 1, 2 and 4 do not refuse.
+#[inline(always)]
+pub fn generator_core(upper: &[u32], lower: &[u32]) -> Option<Generator> {
+    is_own_closure(upper, lower).then(|| Generator {
+        upper: padded(upper),
+        lower: padded(lower),
+        horizon: upper.len(),
+        ring: Ring::new(upper.len()),
+    })
+}
+
 /// On a pair that is its own closure there always is a count to send.
 #[inline(always)]
-pub fn generate_core(upper: &[u32], lower: &[u32], script: &mut [u32]) -> u32 {
-    if !is_own_closure(upper, lower) {
-        return 15;
-    }
-    let mut ring = Ring::new(upper.len());
-    for entry in script {
-        let (lo, hi) = range(&ring, upper, lower);
-        let count = lo as u32 + *entry % (hi - lo + 1) as u32;
-        ring.hold(count);
+pub fn generate_core(generator: &mut Generator, choices: &[u32], counts: &mut [u32]) {
+    let (upper, lower) = (&generator.upper[..generator.horizon], &generator.lower[..generator.horizon]);
+    for (choice, entry) in choices.iter().zip(counts) {
+        let (lo, hi) = range(&generator.ring, upper, lower);
+        let count = lo as u32 + *choice % (hi - lo + 1) as u32;
+        generator.ring.hold(count);
         *entry = count;
     }
-    0
 }
 
 /// A number of 1 to 5 digits with no leading zero from `place` on, and where it ends.

@@ -20,8 +20,6 @@ mod ring;
 #[path = "../outside/subject.rs"]
 mod subject;
 
-use std::time::Instant;
-
 use cases::Case;
 use contender::Contender;
 
@@ -30,10 +28,8 @@ fn best_times(case: &Case, contenders: &[Contender], repetitions: u32) -> Vec<f6
     let mut best = vec![f64::INFINITY; contenders.len()];
     for _ in 0..repetitions {
         for (place, contender) in contenders.iter().enumerate() {
-            let start = Instant::now();
-            (case.run)(case, contender);
-            let each = start.elapsed().as_nanos() as f64 / case.calls as f64;
-            best[place] = best[place].min(each);
+            let time = (case.run)(case, contender).time;
+            best[place] = best[place].min(time.as_nanos() as f64 / case.calls as f64);
         }
     }
     best
@@ -41,9 +37,9 @@ fn best_times(case: &Case, contenders: &[Contender], repetitions: u32) -> Vec<f6
 
 /// Times are compared only where the results agree.
 fn check(case: &Case, contenders: &[Contender]) -> Result<(), String> {
-    let expected = (case.run)(case, &contenders[0]);
+    let expected = (case.run)(case, &contenders[0]).results;
     for contender in &contenders[1..] {
-        if (case.run)(case, contender) != expected {
+        if (case.run)(case, contender).results != expected {
             return Err(format!("{}: {} and {} differ", case.name, contenders[0].name, contender.name));
         }
     }

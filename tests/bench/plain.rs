@@ -1,8 +1,8 @@
 //! The operations as a plain Rust program would have them: for each window its candidates, one after the other, in 32 bits; states
-//! that go in and come out by value and are asked about at each tick; one pass over the text. No loop that matters has a bounds check.
-//! All but the rounds of closing, and the one of a generator's opening, are the product's own algorithms; and a tick of the monitor
-//! finds no margin here, as the product's does.
+//! that go in and come out by value and are asked about at each tick, also where a list has many; one pass over the text. No loop that
+//! matters has a bounds check.
 
+use crate::contender::State;
 use crate::subject::{
     answered, refusal_of, refused, ALREADY_FAILED, HEADER, LIMIT, LONGEST_HORIZON, LONGEST_TEXT, LOST, NO_COUNT, PASSED, TEXT_LIMIT,
     TOO_FEW, TOO_MANY,
@@ -76,6 +76,7 @@ pub fn close(upper: &[u32], lower: &[u32], closed_upper: &mut [u32], closed_lowe
 }
 
 /// What a generator's state is, and a monitor's has, as it goes in and comes out. The last tick is held first.
+#[derive(Clone)]
 struct History {
     upper: [u32; LONGEST_HORIZON],
     lower: [u32; LONGEST_HORIZON],
@@ -148,6 +149,24 @@ impl History {
         PASSED
     }
 
+    /// The smallest margin of the windows that end with a count.
+    fn margin(&self, count: u32) -> i64 {
+        let (mut sum, mut smallest) = (i64::from(count), i64::MAX);
+        for place in 0..self.held_ticks + 1 {
+            // SAFETY: as for a verdict.
+            let (upper, lower, held) = unsafe {
+                (
+                    *self.upper.get_unchecked(place),
+                    *self.lower.get_unchecked(place),
+                    *self.held.get_unchecked(place),
+                )
+            };
+            smallest = smallest.min(i64::from(upper) - sum).min(sum - i64::from(lower));
+            sum += i64::from(held);
+        }
+        smallest
+    }
+
     fn range(&self) -> (i64, i64) {
         let (mut before, mut lo, mut hi) = (0, 0, i64::from(u32::MAX));
         for place in 0..self.held_ticks + 1 {
@@ -179,6 +198,7 @@ impl History {
     }
 }
 
+#[derive(Clone)]
 struct Monitor {
     history: History,
     closed_upper: [u32; LONGEST_HORIZON],
@@ -199,6 +219,14 @@ impl Monitor {
         match history.verdict(&history.upper, &history.lower, count) {
             PASSED if history.verdict(&self.closed_upper, &self.closed_lower, count) != PASSED => LOST,
             verdict => verdict,
+        }
+    }
+
+    fn margin(&self, count: u32) -> i64 {
+        if self.failed {
+            0
+        } else {
+            self.history.margin(count)
         }
     }
 
@@ -223,23 +251,37 @@ impl Monitor {
     }
 }
 
-pub fn judge(upper: &[u32], lower: &[u32], script: &mut [u32]) -> u32 {
+impl State for Monitor {
+    fn run(&mut self, counts: &[u32], verdicts: &mut [u32], margins: &mut [i64]) {
+        let mut monitor = self.clone();
+        for (place, (count, entry)) in counts.iter().zip(verdicts).enumerate() {
+            if let Some(margin) = margins.get_mut(place) {
+                *margin = monitor.margin(*count);
+            }
+            (monitor, *entry) = monitor.tick(*count);
+        }
+        *self = monitor;
+    }
+
+    /// A tick takes the state by value in a list too.
+    fn run_each(&mut self, counts: &[u32], verdicts: &mut [u32]) {
+        self.run(counts, verdicts, &mut []);
+    }
+}
+
+pub fn open_monitor(upper: &[u32], lower: &[u32]) -> Result<Box<dyn State>, u32> {
     let (mut closed_upper, mut closed_lower) = ([0; LONGEST_HORIZON], [0; LONGEST_HORIZON]);
     // The result lists are long enough for every horizon, so that this asks what the opening asks.
     let number = refusal_of(close(upper, lower, &mut closed_upper, &mut closed_lower));
     if number != 0 {
-        return number;
+        return Err(number);
     }
-    let mut monitor = Monitor {
+    Ok(Box::new(Monitor {
         history: History::open(upper, lower),
         closed_upper,
         closed_lower,
         failed: false,
-    };
-    for entry in script {
-        (monitor, *entry) = monitor.tick(*entry);
-    }
-    0
+    }))
 }
 
 /// A round that changes no figure.
@@ -248,17 +290,26 @@ fn is_own_closure(upper: &[u32], lower: &[u32]) -> bool {
     !crosses(upper, lower) && (1..=upper.len()).all(stays)
 }
 
-pub fn generate(upper: &[u32], lower: &[u32], script: &mut [u32]) -> u32 {
+impl State for History {
+    fn run(&mut self, choices: &[u32], counts: &mut [u32], _: &mut [i64]) {
+        let mut generator = self.clone();
+        for (choice, entry) in choices.iter().zip(counts) {
+            (generator, *entry) = generator.generator_tick(*choice);
+        }
+        *self = generator;
+    }
+
+    fn run_each(&mut self, choices: &[u32], counts: &mut [u32]) {
+        self.run(choices, counts, &mut []);
+    }
+}
+
+pub fn open_generator(upper: &[u32], lower: &[u32]) -> Result<Box<dyn State>, u32> {
     match opening(upper, lower) {
-        0 if is_own_closure(upper, lower) => {}
-        0 => return 15,
-        number => return number,
+        0 if is_own_closure(upper, lower) => Ok(Box::new(History::open(upper, lower))),
+        0 => Err(15),
+        number => Err(number),
     }
-    let mut generator = History::open(upper, lower);
-    for entry in script {
-        (generator, *entry) = generator.generator_tick(*entry);
-    }
-    0
 }
 
 /// The number that stands before `end`, and what follows it.

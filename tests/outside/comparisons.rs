@@ -4,13 +4,14 @@ use crate::random::Rng;
 use crate::subject::Subject;
 use crate::tally::Tally;
 use crate::workers::Work;
-use crate::{closings, known, lost, promises, reading, scripts, sendings, unlimited_closings, unlimited_scripts};
+use crate::{borders, closings, damages, known, long_lists, lost, pieces, promises, reading, renders, scripts, sendings};
+use crate::{unlimited_closings, unlimited_scripts};
 
 pub struct Comparison {
     pub name: &'static str,
     /// How many cases in a run with factor 1.
     pub cases: u64,
-    /// How many for a mutant.
+    /// How many for a mutant: none where one takes seconds.
     pub sample: u64,
     pub one: fn(&dyn Subject, &mut Rng, &mut Tally) -> Result<(), String>,
 }
@@ -18,6 +19,7 @@ pub struct Comparison {
 /// The comparison by which mutants are judged alone too: it uses no expected figures.
 pub const PROMISES: &str = "promises of closures";
 
+/// Those that tell many mutants apart in little time stand first.
 pub const COMPARISONS: &[Comparison] = &[
     Comparison {
         name: "closings",
@@ -26,10 +28,34 @@ pub const COMPARISONS: &[Comparison] = &[
         one: closings::compare,
     },
     Comparison {
+        name: "words by hand",
+        cases: 200_000,
+        sample: 2_000,
+        one: damages::compare,
+    },
+    Comparison {
+        name: "rendering",
+        cases: 20_000,
+        sample: 200,
+        one: renders::compare,
+    },
+    Comparison {
         name: "texts",
         cases: 100_000,
         sample: 4_000,
         one: reading::compare_reading,
+    },
+    Comparison {
+        name: "monitors in pieces",
+        cases: 10_000,
+        sample: 100,
+        one: pieces::compare_monitor,
+    },
+    Comparison {
+        name: "generators in pieces",
+        cases: 10_000,
+        sample: 100,
+        one: pieces::compare_generator,
     },
     Comparison {
         name: "monitor scripts",
@@ -84,6 +110,36 @@ pub const COMPARISONS: &[Comparison] = &[
         cases: 3_000,
         sample: 100,
         one: promises::compare_unlimited,
+    },
+    Comparison {
+        name: "borders, monitor",
+        cases: 4_000,
+        sample: 60,
+        one: borders::compare_monitor,
+    },
+    Comparison {
+        name: "borders, generator",
+        cases: 4_000,
+        sample: 60,
+        one: borders::compare_generator,
+    },
+    Comparison {
+        name: "long lists, monitor",
+        cases: 500,
+        sample: 8,
+        one: long_lists::compare_monitor,
+    },
+    Comparison {
+        name: "every window",
+        cases: 1,
+        sample: 0,
+        one: long_lists::compare_every_window,
+    },
+    Comparison {
+        name: "long lists, generator",
+        cases: 300,
+        sample: 3,
+        one: long_lists::compare_generator,
     },
     Comparison {
         name: "known figures",

@@ -1,12 +1,7 @@
-//! The mutants: one plain implementation with one fault each. Some faults are shown by no call over the boundary, as no state and no
-//! margin crosses it: a tick that is held though it was rejected, as a failed monitor answers 'already failed' whatever it holds; the order
-//! of 'too many' and 'too few', as no tick after one that passed is both; by which closed figures a tick is lost once the horizon is
-//! filled, or in a state that no opening made; what is asked of a state; what a refused opening hands out; what a generator does where
-//! there is no count, as none that was opened comes to that; without ceilings, what closed figures do in a state, and whether one that has
-//! failed still has its mark; and every margin. These are told apart on the states and the streams that the program `limits` is given,
-//! where the margin is compared too, and of a state both marks and the held ticks that come back. To judge by the given figures twice is,
-//! from outside, never to find a tick lost; and without ceilings a monitor that judged by closed leasts would reject the same ticks. Two
-//! faults are not among the mutants, since nothing shows them:
+//! The mutants: one plain implementation with one fault each. Two kinds of faults are shown by no call over the boundary: a margin's window
+//! does not cross it, and neither does the state that a refused opening hands out. These are told apart on the streams that the program
+//! `limits` is given. To judge by the given figures twice is, from outside, never to find a tick lost; and without ceilings a monitor that
+//! judged by closed leasts would reject the same ticks. Two faults are not among the mutants, since nothing shows them:
 //!
 //! - A difference cut off at 0, in a round. U d and L d are the old figures, which do not cross, so none is below 0 or above the limit.
 //!   For a least it changes nothing, as no old least is below 0. For a ceiling: where U (d + t) - L t is below 0, the new ceiling of t is
@@ -59,7 +54,13 @@ pub enum Fault {
     // Openings.
     OpeningAsksNoLimit,
     OpeningAsksFourFirst,
-    ScriptClearedOnRefusal,
+    WordsClearedOnRefusal,
+    OpensOnLonger,
+    TwelveFirst,
+    PastHorizonLeft,
+    TicksLeft,
+    FailedLeft,
+    MarkWordAsGiven,
     OpeningAsksFiveFirst,
     ClosesNothing,
     ClosesByOneRound,
@@ -80,7 +81,7 @@ pub enum Fault {
     OwnButHorizon,
     FifteenBeforeFour,
     FifteenForRefusals,
-    SendsAndRefuses,
+    OpensAndRefuses,
     // Monitor.
     EmptyTicksBefore,
     Recovers,
@@ -149,6 +150,47 @@ pub enum Fault {
     LoIgnored,
     LowerOfOneWindowOnly,
     EmptyTicksBeforeSending,
+    LookSwapped,
+    LookTwelveForNone,
+    LookShowsNone,
+    // Runs: what is taken from words, what is written, and what is answered.
+    StateNotWritten,
+    HeldReversed,
+    FailedNotWritten,
+    FailedMadeOne,
+    MarkMadeOne,
+    PastHorizonZeroed,
+    PastHeldZeroed,
+    MarkWordOne,
+    FailedWordOne,
+    TwelveNotOfNone,
+    ClearsWithTwelve,
+    LongerTaken,
+    ShorterTaken,
+    MonitorSends,
+    AllEntriesRun,
+    LongerAnswered,
+    AnswersPastCleared,
+    MarginsPastCleared,
+    MarginsWholeOrNone,
+    FailedMarginsLeft,
+    NoCountEnds,
+    NoCountRefuses,
+    // Runs: sums that are kept from tick to tick.
+    OldestNotSummed,
+    SumsBeginAnew,
+    ClosedShortOnly,
+    GivenShortOnly,
+    SumsIn32Bits,
+    SumsIn31Bits,
+    SumsWithSign,
+    CountsIn29Bits,
+    BorderPasses,
+    BorderRejects,
+    BorderStays,
+    BorderOfTwoTicks,
+    MarginAtBorder,
+    MarginOfCutCounts,
     // Text.
     LeadingZeroTaken,
     SixDigitsTaken,
@@ -184,6 +226,14 @@ pub enum Fault {
     ReportNothingWhenShort,
     ReportLengthCut,
     ReportWithoutLastEnd,
+    // Rendering.
+    RenderPositive,
+    RenderCloses,
+    RenderLosesMark,
+    RenderAsksClosing,
+    RenderAsksNoLimit,
+    RenderNothingWhenShort,
+    RenderLengthCut,
     // The mark.
     OneAloneMarks,
     MarkCutOff,
@@ -217,6 +267,8 @@ pub enum Fault {
     FifteenNotAsked,
     FifteenByOneTick,
     FifteenByHalves,
+    CeilingsWritten,
+    ClosedWritten,
     CeilingJudged,
     StandInsJudged,
     CountsLimited,

@@ -5,9 +5,9 @@ use std::ops::RangeInclusive;
 use crate::faults::Fault::*;
 use crate::faulty_closing::{Faulty, Figures};
 use crate::faulty_monitor::Monitor;
-use crate::faulty_streams::{History, FAR};
+use crate::faulty_streams::{History, BORDER, FAR};
 use crate::streams::Margin;
-use crate::subject::{LEAST_LIMIT, LOST, PASSED};
+use crate::subject::{LEAST_LIMIT, LIMIT, LOST, PASSED};
 
 impl Faulty {
     /// The ceiling that a margin goes by. Without ceilings it is so far that the least is always nearer.
@@ -21,7 +21,12 @@ impl Faulty {
     }
 
     fn window_margin(&self, history: &History, figures: &Figures, count: u32, window: usize) -> i64 {
-        let sum = i64::from(count) + history.before(window - 1);
+        let whole = i64::from(count) + history.before(window - 1);
+        let sum = match self.fault {
+            MarginAtBorder => whole.min(BORDER),
+            MarginOfCutCounts => i64::from(count.min(LIMIT)) + history.before(window - 1),
+            _ => whole,
+        };
         let (above, below) = (self.margin_ceiling(figures, window) - sum, sum - figures.lower[window]);
         match self.fault {
             MarginLarger => above.max(below),

@@ -1,38 +1,46 @@
-//! The monitor with a fault: its opening, its ticks, and its ticks on states built by hand. Its margin is in `faulty_margins`.
+//! The monitor with a fault: its opening, its ticks, and what it asks of a state. Its margin is in `faulty_margins`.
 
 use std::ops::RangeInclusive;
 
-use crate::faults::Fault::{self, *};
+use crate::faults::Fault::*;
 use crate::faulty_closing::{Asker, Faulty, Figures, Lists};
-use crate::faulty_streams::{lists_of, History, FAR};
+use crate::faulty_streams::{lists_of, History, BORDER, FAR};
 use crate::pair::Pair;
 use crate::runs::{Course, Run};
-use crate::states::{Judged, State};
+use crate::states::State;
 use crate::streams::Margin;
 use crate::subject::{ALREADY_FAILED, LEAST_LIMIT, LIMIT, LOST, PASSED, REFUSED, TOO_FEW, TOO_MANY};
+use crate::words::Kind;
+
+/// From so many ticks on a list is long.
+const LONG: usize = 1_000;
 
 /// A history, the closed figures, and what a failed monitor failed with.
 pub struct Monitor {
     pub history: History,
     pub closed: Figures,
-    failed: u32,
-}
-
-impl Monitor {
-    fn new(given: Figures, closed: Figures, held: Vec<u32>) -> Monitor {
-        let history = History { given, held };
-        let failed = PASSED;
-        Monitor { history, closed, failed }
-    }
-
-    /// On the history of a state that has its sizes. It has not failed.
-    fn of_state(state: &State) -> Monitor {
-        let (given, closed) = (Figures::new(lists_of(&state.given())), Figures::new(lists_of(&state.closed())));
-        Monitor::new(given, closed, state.stream().to_vec())
-    }
+    pub failed: u32,
 }
 
 impl Faulty {
+    pub fn monitor(&self, given: Figures, closed: Figures, held: &[u32]) -> Monitor {
+        Monitor {
+            history: self.history(given, held),
+            closed,
+            failed: PASSED,
+        }
+    }
+
+    /// On the words of a state that has its sizes. A generator's history is one of these too.
+    pub fn monitor_of(&self, state: &State) -> Monitor {
+        let (given, closed) = (Figures::new(lists_of(&state.given())), Figures::new(lists_of(&state.closed())));
+        let failed = if state.failed { ALREADY_FAILED } else { PASSED };
+        Monitor {
+            failed,
+            ..self.monitor(given, closed, state.stream())
+        }
+    }
+
     fn judged_windows(&self, history: &History) -> usize {
         if self.has(EmptyTicksBefore) {
             return history.horizon();
@@ -55,7 +63,21 @@ impl Faulty {
 
     fn window_sum(&self, history: &History, count: u32, window: usize) -> i64 {
         let whole = self.has(HeldOneTooMany) && window == history.horizon();
-        i64::from(count) + history.before(if whole { window } else { window - 1 })
+        let count = if self.has(CountsIn29Bits) {
+            i64::from(count) % BORDER
+        } else {
+            i64::from(count)
+        };
+        let sum = count + history.before(if whole { window } else { window - 1 });
+        if self.has(BorderOfTwoTicks) && sum == BORDER && count < BORDER {
+            return 0;
+        }
+        self.kept(sum)
+    }
+
+    /// Whether some window has a sum above the border.
+    fn over_border(&self, history: &History, count: u32) -> bool {
+        self.window_sum(history, count, self.judged_windows(history)) > BORDER
     }
 
     /// The ceiling that a tick is judged by.
@@ -92,8 +114,12 @@ impl Faulty {
     }
 
     fn verdict(&self, history: &History, figures: &Figures, count: u32) -> u32 {
-        if self.has(FirstTickOnly) && !history.held.is_empty() {
-            return PASSED;
+        match self.fault {
+            FirstTickOnly if !history.held.is_empty() => return PASSED,
+            BorderPasses if self.over_border(history, count) => return PASSED,
+            BorderStays if history.was_over => return PASSED,
+            BorderRejects if self.over_border(history, count) => return TOO_MANY + self.judged_windows(history) as u32,
+            _ => {}
         }
         let all = self.outside(history, figures, count, 1..=self.judged_windows(history));
         let mut outside = all.iter().copied();
@@ -109,7 +135,13 @@ impl Faulty {
     fn lost_in(&self, monitor: &Monitor, count: u32) -> Option<u32> {
         let history = &monitor.history;
         let without = history.given.unlimited && !self.has(LostWithoutCeilings);
-        if without || self.has(NeverLost) || (self.has(FirstTickOnly) && !history.held.is_empty()) {
+        let never = match self.fault {
+            NeverLost => true,
+            FirstTickOnly => !history.held.is_empty(),
+            ClosedShortOnly => history.ran >= LONG,
+            _ => false,
+        };
+        if without || never {
             return None;
         }
         let anew = self.has(LostByClosingAnew).then(|| self.rounds(history.given.clone()).0);
@@ -131,7 +163,10 @@ impl Faulty {
         } else {
             &monitor.history.given
         };
-        let verdict = self.verdict(&monitor.history, figures, count);
+        let verdict = match self.fault {
+            GivenShortOnly if monitor.history.ran >= LONG => PASSED,
+            _ => self.verdict(&monitor.history, figures, count),
+        };
         match self.lost_in(monitor, count) {
             Some(window) if verdict == PASSED => LOST + if self.has(LostNamesWindow) { window } else { 0 },
             Some(_) if self.has(LostFirst) => LOST,
@@ -168,9 +203,10 @@ impl Faulty {
         verdict
     }
 
-    /// The same with the margin, which a script does not tell. It is that of the history before the tick.
-    fn whole_tick(&self, monitor: &mut Monitor, count: u32) -> (u32, Margin) {
+    /// The same with the margin, where it is asked for. It is that of the history before the tick.
+    pub fn whole_tick(&self, monitor: &mut Monitor, count: u32, asked: bool) -> (u32, Margin) {
         let margin = match monitor.failed {
+            _ if !asked => Margin::default(),
             PASSED => self.margin(monitor, count, self.ruling(monitor, count)),
             _ if self.has(MarginWhereFailed) => self.margin(monitor, count, PASSED),
             _ => Margin::default(),
@@ -203,35 +239,27 @@ impl Faulty {
         }
     }
 
-    /// A monitor that is opened, or the number of the refusal.
-    fn opened(&self, given: Lists) -> Result<Monitor, u32> {
+    /// The figures of a monitor that is opened, with the closed ones, or the number of the refusal.
+    pub fn monitor_opened(&self, given: Lists) -> Result<(Figures, Figures), u32> {
         let unlimited = given.unlimited && !self.has(MonitorIgnoresMark);
         let lists = Lists { unlimited, ..given };
         let closed = self.closed_at_opening(lists)?;
-        Ok(Monitor::new(Figures::new(lists), closed, Vec::new()))
-    }
-
-    pub fn judge_into(&self, given: Lists, script: &mut [u32]) -> u32 {
-        let mut monitor = match self.opened(given) {
-            Err(number) => return self.refuse(number, script),
-            Ok(monitor) => monitor,
-        };
-        script.iter_mut().for_each(|entry| *entry = self.monitor_tick(&mut monitor, *entry));
-        0
+        Ok((Figures::new(lists), closed))
     }
 
     /// A stream on the monitor that an opening hands out, with the margins. A refused one leaves nothing that a margin could be of.
     pub fn course(&self, run: &Run) -> Course {
         let given = || Figures::new(lists_of(&run.pair));
-        let (opening, mut monitor) = match self.opened(lists_of(&run.pair)) {
-            Err(opening) if self.has(RefusedHandsOutPair) => (opening, Monitor::new(given(), given(), Vec::new())),
+        let (opening, figures) = match self.monitor_opened(lists_of(&run.pair)) {
+            Err(opening) if self.has(RefusedHandsOutPair) => (opening, (given(), given())),
             Err(opening) => {
                 let ticks = vec![(REFUSED + 12, Margin::default()); run.counts.len()];
                 return Course { opening, ticks };
             }
-            Ok(monitor) => (0, monitor),
+            Ok(figures) => (0, figures),
         };
-        let ticks = run.counts.iter().map(|&count| self.whole_tick(&mut monitor, count)).collect();
+        let mut monitor = self.monitor(figures.0, figures.1, &[]);
+        let ticks = run.counts.iter().map(|&count| self.whole_tick(&mut monitor, count, true)).collect();
         Course { opening, ticks }
     }
 
@@ -246,39 +274,9 @@ impl Faulty {
         }
     }
 
-    fn is_bad(&self, state: &State) -> bool {
+    /// Question 12, of words that are as many as they must be.
+    pub fn is_bad(&self, kind: Kind, state: &State) -> bool {
         let over = |pair: Pair| self.over_limit(lists_of(&pair), Asker::State);
-        !state.has_sizes() || over(state.given()) || self.closed_over_limit(state)
-    }
-
-    /// A tick on a state built by hand.
-    pub fn judge_state(&self, state: &State, count: u32) -> Judged {
-        let stays = |answer: u32, fault: Fault| {
-            let has_margin = self.has(fault) && state.has_sizes();
-            let margin = has_margin.then(|| self.margin(&Monitor::of_state(state), count, PASSED));
-            Judged {
-                answer,
-                margin: margin.unwrap_or_default(),
-                failed: state.failed,
-                unlimited: state.unlimited(),
-                held: None,
-            }
-        };
-        if self.is_bad(state) && !(self.has(FailedBeforeTwelve) && state.failed) {
-            return stays(REFUSED + 12, MarginWithTwelve);
-        }
-        if state.failed {
-            return stays(ALREADY_FAILED, MarginWhereFailed);
-        }
-        let mut monitor = Monitor::of_state(state);
-        let (answer, margin) = self.whole_tick(&mut monitor, count);
-        let added = answer == PASSED || monitor.history.held != state.stream();
-        Judged {
-            answer,
-            margin,
-            failed: monitor.failed != PASSED,
-            unlimited: monitor.history.given.unlimited,
-            held: added.then_some(monitor.history.held),
-        }
+        !state.has_sizes() || over(state.given()) || (kind == Kind::Monitor && self.closed_over_limit(state))
     }
 }

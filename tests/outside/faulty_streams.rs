@@ -1,18 +1,26 @@
 //! The generator with a fault, and what it shares with the monitor: a history with held ticks, as the rule describes it.
 
 use crate::faults::Fault::{self, *};
-use crate::faulty_closing::{Asker, Faulty, Figures, Lists};
+use crate::faulty_closing::{Faulty, Figures, Lists};
 use crate::pair::Pair;
-use crate::states::{Sent, State};
-use crate::subject::{LIMIT, NO_COUNT, REFUSED};
+use crate::subject::{LIMIT, NO_COUNT};
 
 /// A ceiling that no window of counts reaches, nor any margin.
 pub const FAR: i64 = 1 << 60;
+/// Sums may be kept in another way above this.
+pub const BORDER: i64 = 1 << 29;
 
 /// A pair and the ticks held.
 pub struct History {
     pub given: Figures,
     pub held: Vec<u32>,
+    /// The ticks that are summed: those held, unless a fault took some for others when the list began.
+    summed: Vec<u32>,
+    /// The sums of the last of them, that of none first.
+    sums: Vec<i64>,
+    /// How many ticks of the list have run, and whether some sum of them was above the border.
+    pub ran: usize,
+    pub was_over: bool,
 }
 
 impl History {
@@ -22,12 +30,48 @@ impl History {
 
     /// The sum of the last held ticks, as many as there are up to `ticks`.
     pub fn before(&self, ticks: usize) -> i64 {
-        let start = self.held.len().saturating_sub(ticks);
-        self.held[start..].iter().map(|&count| i64::from(count)).sum()
+        self.sums[ticks.min(self.held.len())]
+    }
+
+    fn sum_up(&mut self) {
+        self.sums = vec![0];
+        for (place, &count) in self.summed.iter().rev().enumerate() {
+            self.sums.push(self.sums[place] + i64::from(count));
+        }
     }
 }
 
 impl Faulty {
+    /// Where a list begins.
+    pub fn history(&self, given: Figures, held: &[u32]) -> History {
+        let mut summed = held.to_vec();
+        match self.fault {
+            OldestNotSummed => summed.iter_mut().take(1).for_each(|count| *count = 0),
+            SumsBeginAnew => summed.fill(0),
+            _ => {}
+        }
+        let mut history = History {
+            given,
+            held: held.to_vec(),
+            summed,
+            sums: Vec::new(),
+            ran: 0,
+            was_over: false,
+        };
+        history.sum_up();
+        history
+    }
+
+    /// A sum as it is kept.
+    pub fn kept(&self, sum: i64) -> i64 {
+        match self.fault {
+            SumsIn32Bits => sum % (1 << 32),
+            SumsIn31Bits => sum % (1 << 31),
+            SumsWithSign => i64::from(sum as i32),
+            _ => sum,
+        }
+    }
+
     pub fn hold(&self, history: &mut History, count: u32) {
         let mut room = history.horizon() - 1;
         match self.fault {
@@ -38,10 +82,12 @@ impl Faulty {
         if self.has(TickLosesMark) {
             history.given.unlimited = false;
         }
-        history.held.push(count);
-        while history.held.len() > room {
-            history.held.remove(0);
+        for list in [&mut history.held, &mut history.summed] {
+            list.push(count);
+            list.drain(..list.len().saturating_sub(room));
         }
+        history.sum_up();
+        history.was_over |= history.before(history.held.len()) > BORDER;
     }
 
     /// The largest count that a generator sends where there are no ceilings.
@@ -64,7 +110,7 @@ impl Faulty {
         }
     }
 
-    fn range(&self, history: &History) -> (i64, i64) {
+    pub fn range(&self, history: &History) -> (i64, i64) {
         let mut lo = 0;
         let mut hi = if history.given.unlimited {
             self.largest_sent()
@@ -78,7 +124,7 @@ impl Faulty {
         };
         let windows = history.horizon().min(all);
         for window in 1..=windows {
-            let before = history.before(window - 1);
+            let before = self.kept(history.before(window - 1));
             hi = hi.min(self.sending_ceiling(&history.given, window) - before);
             if !self.has(LoIgnored) && (window == windows || !self.has(LowerOfOneWindowOnly)) {
                 lo = lo.max(history.given.lower[window] - before);
@@ -87,7 +133,7 @@ impl Faulty {
         (lo, hi)
     }
 
-    fn generator_tick(&self, history: &mut History, choice: u32) -> u32 {
+    pub fn generator_tick(&self, history: &mut History, choice: u32) -> u32 {
         let (lo, hi) = self.range(history);
         if lo > hi || self.has(AlwaysNoCount) {
             if self.has(HoldsForNoCount) {
@@ -103,14 +149,6 @@ impl Faulty {
         let count = (lo + more) as u32;
         self.hold(history, count);
         count
-    }
-
-    /// What a refused opening gives back.
-    pub fn refuse(&self, number: u32, script: &mut [u32]) -> u32 {
-        if self.has(ScriptClearedOnRefusal) {
-            script.fill(0);
-        }
-        number
     }
 
     /// Whether a generator takes a pair that keeps the questions 1, 2 and 4.
@@ -151,49 +189,18 @@ impl Faulty {
         }
     }
 
-    fn send_all(&self, given: Figures, script: &mut [u32]) {
-        let mut history = History { given, held: Vec::new() };
-        script
-            .iter_mut()
-            .for_each(|entry| *entry = self.generator_tick(&mut history, *entry));
-    }
-
-    pub fn generate_into(&self, given: Lists, script: &mut [u32]) -> u32 {
+    /// The figures of a generator that is opened, or the number of the refusal. A fault may leave some with the number.
+    pub fn generator_opened(&self, given: Lists) -> (u32, Option<Figures>) {
         let unlimited = given.unlimited && !self.has(GeneratorIgnoresMark);
         let lists = Lists { unlimited, ..given };
         let number = self.generator_opening(lists);
         let given = Figures::new(lists);
-        match self.fault {
-            ClosesByItself if number == 0 => self.send_all(self.rounds(given).0, script),
-            SendsAndRefuses if number == 15 => self.send_all(given, script),
-            _ if number == 0 => self.send_all(given, script),
-            _ => return self.refuse(number, script),
-        }
-        number
-    }
-
-    /// A tick on a state built by hand.
-    pub fn send_state(&self, state: &State, choice: u32) -> Sent {
-        let stays = |answer: u32| Sent {
-            answer,
-            unlimited: state.unlimited(),
-            held: None,
+        let figures = match self.fault {
+            ClosesByItself if number == 0 => Some(self.rounds(given).0),
+            OpensAndRefuses if number == 15 => Some(given),
+            _ => (number == 0).then_some(given),
         };
-        let given = state.has_sizes().then(|| state.given());
-        let Some(given) = given.filter(|given| !self.over_limit(lists_of(given), Asker::State)) else {
-            return stays(REFUSED + 12);
-        };
-        let mut history = History {
-            given: Figures::new(lists_of(&given)),
-            held: state.stream().to_vec(),
-        };
-        let answer = self.generator_tick(&mut history, choice);
-        let added = answer < REFUSED || history.held != state.stream();
-        Sent {
-            answer,
-            unlimited: history.given.unlimited,
-            held: added.then_some(history.held),
-        }
+        (number, figures)
     }
 }
 

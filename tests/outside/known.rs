@@ -5,7 +5,7 @@ use crate::random::Rng;
 use crate::reference::Reference;
 use crate::subject::{refusal_of, refused, shown, Subject, LIMIT};
 use crate::tally::Tally;
-use crate::{closings, known_streams, pairs, reading, rounds};
+use crate::{closings, known_streams, known_words, pairs, reading, rounds};
 
 type Figures = &'static [u32];
 
@@ -262,6 +262,7 @@ pub fn compare(subject: &dyn Subject, rng: &mut Rng, tally: &mut Tally) -> Resul
             check_text(implementor, text, expected)?;
         }
         known_streams::check(implementor)?;
+        known_words::check(implementor)?;
         check_long(implementor, rng, tally)?;
     }
     Ok(())

@@ -7,7 +7,7 @@ use crate::pair::{closed, Pair};
 use crate::pairs;
 use crate::reference::Reference;
 use crate::runs::{self, Course, Run};
-use crate::states::{self, digest, drawn, is_judged, kind_and_window, Judged, Sent, State, CASES};
+use crate::states::{self, digest, drawn, is_judged, kind_and_window, Judged, State, CASES};
 use crate::streams::{sum, verdict};
 use crate::subject::{mark_of, value_of, Subject, ALREADY_FAILED, LEAST_LIMIT, LIMIT, LONGEST_HORIZON, LOST, PASSED, REFUSED};
 use crate::tally::{Tally, BOTH, BUILT, BUILT_LOOSER, BUILT_MARGIN, BUILT_REJECTED, BUILT_SENT, BUILT_TWELVE};
@@ -93,7 +93,7 @@ fn lines() -> Vec<String> {
 
 /// Whether the tick is outside both ways, so that the order of comparing matters: in one window, or in different ones. In a script it
 /// never is, since a stream that a monitor passed can go on.
-fn note_both(pair: &Pair, stream: &[u32], tally: &mut Tally) {
+pub fn note_both(kind: &'static str, pair: &Pair, stream: &[u32], tally: &mut Tally) {
     let (mut many, mut few) = (None, None);
     for window in (1..=pair.horizon().min(stream.len())).rev() {
         let total = sum(&stream[stream.len() - window..]);
@@ -105,7 +105,7 @@ fn note_both(pair: &Pair, stream: &[u32], tally: &mut Tally) {
         }
     }
     if many.is_some() && few.is_some() {
-        tally.note(BOTH, u32::from(many == few));
+        tally.note(kind, u32::from(many == few));
     }
 }
 
@@ -131,7 +131,7 @@ fn note(state: &State, count: u32, tally: &mut Tally) {
         PASSED | LOST => {}
         _ => {
             tally.note(BUILT_REJECTED, u32::from(verdict(&closed, &stream) != PASSED));
-            note_both(&given, &stream, tally);
+            note_both(BOTH, &given, &stream, tally);
         }
     }
 }
@@ -245,23 +245,12 @@ pub fn compare(stored: &str, tally: &mut Tally) -> Result<usize, String> {
     }
 }
 
-/// The first state on which a monitor's tick or a generator's comes to something else than it must, or else the first such run.
-pub fn told_apart(
-    judge: impl Fn(&State, u32) -> Judged,
-    send: impl Fn(&State, u32) -> Sent,
-    course: impl Fn(&Run) -> Course,
-) -> Option<(&'static str, u64)> {
-    let by_state = (1..=CASES).find(|&case| {
-        let (state, number) = drawn(case);
-        judge(&state, number) != state.judged(number) || send(&state, number) != state.sent(number)
-    });
-    let by_run = || {
-        (0..=runs::CASES).find(|&case| {
+/// The first run that comes to something else than it must.
+pub fn told_apart(course: impl Fn(&Run) -> Course) -> Option<(&'static str, u64)> {
+    (0..=runs::CASES)
+        .find(|&case| {
             let run = runs::drawn(case);
             course(&run) != run.course()
         })
-    };
-    by_state
-        .map(|case| ("states of limits", case))
-        .or_else(|| by_run().map(|case| ("runs of limits", case)))
+        .map(|case| ("runs of limits", case))
 }

@@ -6,8 +6,12 @@
 //! FIGURES is the path of the figures program, LIMITS that of the output that is stored for the program `limits`. The seed is 1 unless
 //! given, and the factor multiplies the number of cases.
 
+mod borders;
+mod built;
+mod calls;
 mod closings;
 mod comparisons;
+mod damages;
 mod draws;
 mod extensions;
 mod fault_list;
@@ -18,21 +22,27 @@ mod faulty_monitor;
 mod faulty_report;
 mod faulty_streams;
 mod faulty_text;
+mod faulty_words;
 mod known;
 mod known_streams;
+mod known_words;
 mod limits;
+mod long_lists;
 mod lost;
 mod margins;
 mod mutants;
 mod odd_texts;
+mod openings;
 mod pair;
 mod pairs;
 mod paths;
+mod pieces;
 mod product;
 mod promises;
 mod random;
 mod reading;
 mod reference;
+mod renders;
 mod rounds;
 mod runs;
 mod script_cases;
@@ -45,9 +55,12 @@ mod sums;
 mod tally;
 mod text;
 mod texts;
+mod trace;
 mod unlimited_closings;
 mod unlimited_pairs;
 mod unlimited_scripts;
+mod window_sums;
+mod words;
 mod workers;
 
 use std::process::ExitCode;

@@ -10,6 +10,7 @@ use crate::faults::Fault;
 use crate::faulty_closing::Faulty;
 use crate::limits;
 use crate::subject::Subject;
+use crate::words::Kind;
 use crate::workers::locked;
 
 impl Subject for Faulty {
@@ -25,12 +26,28 @@ impl Subject for Faulty {
         self.report_into(text, output)
     }
 
-    fn judge(&self, upper: &[u32], lower: &[u32], mark: u32, script: &mut [u32]) -> u32 {
-        self.judge_into(self.lists(upper, lower, mark), script)
+    fn render(&self, upper: &[u32], lower: &[u32], mark: u32, output: &mut [u8]) -> i64 {
+        self.render_into(self.lists(upper, lower, mark), output)
     }
 
-    fn generate(&self, upper: &[u32], lower: &[u32], mark: u32, script: &mut [u32]) -> u32 {
-        self.generate_into(self.lists(upper, lower, mark), script)
+    fn open_monitor(&self, upper: &[u32], lower: &[u32], mark: u32, state: &mut [u32]) -> u32 {
+        self.open_into(Kind::Monitor, self.lists(upper, lower, mark), mark, state)
+    }
+
+    fn open_generator(&self, upper: &[u32], lower: &[u32], mark: u32, state: &mut [u32]) -> u32 {
+        self.open_into(Kind::Generator, self.lists(upper, lower, mark), mark, state)
+    }
+
+    fn run_monitor(&self, state: &mut [u32], counts: &[u32], verdicts: &mut [u32], margins: &mut [i64]) -> i64 {
+        self.run_on(Kind::Monitor, state, counts, verdicts, margins)
+    }
+
+    fn run_generator(&self, state: &mut [u32], choices: &[u32], counts: &mut [u32]) -> i64 {
+        self.run_on(Kind::Generator, state, choices, counts, &mut [])
+    }
+
+    fn look(&self, state: &[u32]) -> i64 {
+        self.look_at(state)
     }
 }
 
@@ -65,11 +82,7 @@ fn catch(fault: Fault, seed: u64) -> Caught {
     }
     if caught.first.is_none() {
         let subject = Faulty { fault };
-        caught.first = limits::told_apart(
-            |state, count| subject.judge_state(state, count),
-            |state, choice| subject.send_state(state, choice),
-            |run| subject.course(run),
-        );
+        caught.first = limits::told_apart(|run| subject.course(run));
     }
     caught
 }

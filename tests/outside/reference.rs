@@ -2,7 +2,8 @@
 
 use crate::pair::Pair;
 use crate::subject::Subject;
-use crate::{rounds, streams, text};
+use crate::words::Kind;
+use crate::{openings, rounds, text, trace};
 
 pub struct Reference;
 
@@ -19,11 +20,27 @@ impl Subject for Reference {
         text::report_into(text, output)
     }
 
-    fn judge(&self, upper: &[u32], lower: &[u32], mark: u32, script: &mut [u32]) -> u32 {
-        streams::judge_into(&Pair::marked(upper, lower, mark), script)
+    fn render(&self, upper: &[u32], lower: &[u32], mark: u32, output: &mut [u8]) -> i64 {
+        text::render_into(&Pair::marked(upper, lower, mark), output)
     }
 
-    fn generate(&self, upper: &[u32], lower: &[u32], mark: u32, script: &mut [u32]) -> u32 {
-        streams::generate_into(&Pair::marked(upper, lower, mark), script)
+    fn open_monitor(&self, upper: &[u32], lower: &[u32], mark: u32, state: &mut [u32]) -> u32 {
+        openings::open_into(Kind::Monitor, &Pair::marked(upper, lower, mark), state)
+    }
+
+    fn open_generator(&self, upper: &[u32], lower: &[u32], mark: u32, state: &mut [u32]) -> u32 {
+        openings::open_into(Kind::Generator, &Pair::marked(upper, lower, mark), state)
+    }
+
+    fn run_monitor(&self, state: &mut [u32], counts: &[u32], verdicts: &mut [u32], margins: &mut [i64]) -> i64 {
+        trace::run_on(Kind::Monitor, state, counts, verdicts, margins)
+    }
+
+    fn run_generator(&self, state: &mut [u32], choices: &[u32], counts: &mut [u32]) -> i64 {
+        trace::run_on(Kind::Generator, state, choices, counts, &mut [])
+    }
+
+    fn look(&self, state: &[u32]) -> i64 {
+        trace::look_at(state)
     }
 }

@@ -1,6 +1,6 @@
 //! Streams on monitors as an opening hands them out, a refused one too, drawn as the program `limits` draws them, and what each tick must
-//! be answered, by the reference. No margin crosses the C boundary; here each is seen, while the held ticks fill up and once the oldest are
-//! let go.
+//! be answered, by the reference. The window of a margin does not cross the C boundary; here it is seen, while the held ticks fill up and
+//! once the oldest are let go.
 
 use crate::draws::draw;
 use crate::pair::Pair;

@@ -5,7 +5,9 @@
 use crate::draws::{draw, draw_count, draw_counts, draw_odd, draw_size};
 use crate::pair::Pair;
 use crate::streams::{chosen, margin, range, ruling, Margin};
-use crate::subject::{ALREADY_FAILED, LONGEST_HORIZON, NO_COUNT, PASSED, REFUSED};
+use crate::subject::{ALREADY_FAILED, LONGEST_HORIZON, MONITOR_WORDS, NO_COUNT, PASSED, REFUSED};
+use crate::words::{Kind, CLOSED_LOWER_WORDS, CLOSED_UPPER_WORDS, FAILED_WORD, HELD_WORD, HORIZON_WORD};
+use crate::words::{LOWER_WORDS, MARK_WORD, TICK_WORDS, UPPER_WORDS};
 
 pub const CASES: u64 = 600;
 /// The states after this one have no ceilings.
@@ -24,9 +26,12 @@ pub struct State {
 
 /// A state and the count, or the choice, that it gets.
 pub fn drawn(case: u64) -> (State, u32) {
-    let limited = case <= LIMITED_CASES;
+    (drawn_state(case, case <= LIMITED_CASES), draw_count(case, 2, 12, 4))
+}
+
+pub fn drawn_state(case: u64, limited: bool) -> State {
     let closed_odd = draw_odd(case, 12, 8, limited);
-    let state = State {
+    State {
         horizon: draw_size(case, 4, 11),
         held: draw_size(case, 6, 1 + draw(case, 8, 10)),
         failed: draw(case, 1, 4) == 0,
@@ -40,13 +45,16 @@ pub fn drawn(case: u64) -> (State, u32) {
             &draw_counts(case, 5_120, closed_odd, 1 + draw(case, 14, 9)),
         ),
         ticks: draw_counts(case, 3_072, 24, 1 + draw(case, 11, 6)),
-    };
-    (state, draw_count(case, 2, 12, 4))
+    }
+}
+
+/// With entries of 0 up to the longest horizon.
+fn padded(numbers: &[u32]) -> Vec<u32> {
+    [numbers, &[0; LONGEST_HORIZON][numbers.len()..]].concat()
 }
 
 /// The published pair as it is read, after 0, 2, 1, 0, 2, 0. No generator opens on it, and no count can follow.
 pub fn stuck() -> State {
-    let padded = |numbers: &[u32]| [numbers, &[0; LONGEST_HORIZON][numbers.len()..]].concat();
     let none = padded(&[]);
     State {
         horizon: 5,
@@ -74,23 +82,18 @@ pub fn full(unlimited: bool) -> State {
 }
 
 /// What a monitor's tick comes to.
-#[derive(PartialEq)]
 pub struct Judged {
-    /// As an entry of a script.
+    /// As a run answers it.
     pub answer: u32,
     pub margin: Margin,
     pub failed: bool,
-    /// Whether the state that comes back has no ceilings.
-    pub unlimited: bool,
     /// The ticks that are held then, or nothing where the state comes back as it was, but for its having failed.
     pub held: Option<Vec<u32>>,
 }
 
 /// What a generator's tick comes to, with the same fields. Unlike one after an opening, it may be refused, with 12 or 13.
-#[derive(PartialEq)]
 pub struct Sent {
     pub answer: u32,
-    pub unlimited: bool,
     pub held: Option<Vec<u32>>,
 }
 
@@ -122,9 +125,67 @@ fn digests(pair: &Pair) -> String {
 }
 
 impl State {
+    /// Without a tick. The figures of both pairs are those up to the horizon, and all others are 0.
+    pub fn fresh(given: Pair, closed: Pair) -> State {
+        let padded_pair = |pair: &Pair| Pair::marked(&padded(&pair.upper), &padded(&pair.lower), pair.mark);
+        State {
+            horizon: given.horizon() as u64,
+            held: 0,
+            failed: false,
+            given: padded_pair(&given),
+            closed: padded_pair(&closed),
+            ticks: padded(&[]),
+        }
+    }
+
+    /// What a monitor's words say, or a generator's, or any others: those that are missing are 0, and those too many have no effect.
+    pub fn of_words(words: &[u32]) -> State {
+        let mut all = words.to_vec();
+        all.resize(MONITOR_WORDS, 0);
+        let list = |first: usize| all[first..first + LONGEST_HORIZON].to_vec();
+        let pair = |upper: usize, lower: usize, mark: u32| Pair::marked(&list(upper), &list(lower), mark);
+        State {
+            horizon: u64::from(all[HORIZON_WORD]),
+            held: u64::from(all[HELD_WORD]),
+            failed: all[FAILED_WORD] != 0,
+            given: pair(UPPER_WORDS, LOWER_WORDS, all[MARK_WORD]),
+            closed: pair(CLOSED_UPPER_WORDS, CLOSED_LOWER_WORDS, 0),
+            ticks: list(TICK_WORDS),
+        }
+    }
+
+    /// As a monitor's words, of which the first are a generator's. A size that no word holds becomes the largest that one does.
+    pub fn words(&self) -> Vec<u32> {
+        let size = |size: u64| u32::try_from(size).unwrap_or(u32::MAX);
+        let parts: [&[u32]; 8] = [
+            &[size(self.horizon), self.given.mark],
+            &self.given.upper,
+            &self.given.lower,
+            &[size(self.held)],
+            &self.ticks,
+            &self.closed.upper,
+            &self.closed.lower,
+            &[u32::from(self.failed)],
+        ];
+        parts.concat()
+    }
+
+    /// Question 12. A generator has no closed figures.
+    pub fn is_legal(&self, kind: Kind) -> bool {
+        self.has_sizes()
+            && match kind {
+                Kind::Monitor => !self.over_limit(),
+                Kind::Generator => !self.given().over_limit(),
+            }
+    }
+
     /// What question 12 asks of the horizon and the held ticks. The figures and the stream are those of a state that has this.
     pub fn has_sizes(&self) -> bool {
         1 <= self.horizon && self.horizon <= LONGEST_HORIZON as u64 && self.held < self.horizon
+    }
+
+    pub fn horizon(&self) -> u64 {
+        self.horizon
     }
 
     /// The closed figures past the horizon too.
@@ -173,10 +234,9 @@ impl State {
             answer,
             margin: Margin::default(),
             failed: self.failed,
-            unlimited: self.unlimited(),
             held: None,
         };
-        if !self.has_sizes() || self.over_limit() {
+        if !self.is_legal(Kind::Monitor) {
             return unjudged(REFUSED + 12);
         }
         if self.failed {
@@ -188,7 +248,6 @@ impl State {
             answer,
             margin: margin(&given, &stream),
             failed: answer != PASSED,
-            unlimited: self.unlimited(),
             held: (answer == PASSED).then(|| self.held_with(count)),
         }
     }
@@ -231,19 +290,14 @@ impl State {
 
     /// A generator on the same history. It has no closed figures.
     pub fn sent(&self, choice: u32) -> Sent {
-        let unlimited = self.unlimited();
-        let refused = |answer: u32| Sent {
-            answer,
-            unlimited,
-            held: None,
-        };
-        if !self.has_sizes() || self.given().over_limit() {
+        let refused = |answer: u32| Sent { answer, held: None };
+        if !self.is_legal(Kind::Generator) {
             return refused(REFUSED + 12);
         }
         self.range().map_or(refused(NO_COUNT), |(lo, hi)| {
             let answer = chosen(lo, hi, choice);
             let held = Some(self.held_with(answer));
-            Sent { answer, unlimited, held }
+            Sent { answer, held }
         })
     }
 

@@ -1,11 +1,19 @@
-//! Conformance, the monitor and the generator, from the whole stream each time: every window is summed anew.
+//! Conformance, the monitor and the generator, from the whole stream each time: the windows are summed anew at each tick.
 
-use crate::pair::{closes_to_itself, closure, Pair};
-use crate::rounds::opening;
-use crate::subject::{ALREADY_FAILED, LIMIT, LOST, NO_COUNT, PASSED, TOO_FEW, TOO_MANY};
+use crate::pair::Pair;
+use crate::subject::{LIMIT, LOST, NO_COUNT, PASSED, TOO_FEW, TOO_MANY};
 
 pub fn sum(counts: &[u32]) -> u64 {
     counts.iter().map(|&count| u64::from(count)).sum()
+}
+
+/// The windows that end the stream with their sums, the shortest first: one more tick back each.
+fn ending_windows(stream: &[u32]) -> impl Iterator<Item = (usize, u64)> + '_ {
+    let sums = stream.iter().rev().scan(0, |total, &count| {
+        *total += u64::from(count);
+        Some(*total)
+    });
+    (1..).zip(sums)
 }
 
 /// Whether every window inside the stream keeps its figures: all places, all lengths.
@@ -18,8 +26,7 @@ pub fn conforms(pair: &Pair, stream: &[u32]) -> bool {
 
 /// What one pair says of the last tick of the stream.
 pub fn verdict(pair: &Pair, stream: &[u32]) -> u32 {
-    for window in 1..=pair.horizon().min(stream.len()) {
-        let total = sum(&stream[stream.len() - window..]);
+    for (window, total) in ending_windows(stream).take(pair.horizon()) {
         if pair.ceiling(window).is_some_and(|most| total > most) {
             return TOO_MANY + window as u32;
         }
@@ -38,18 +45,22 @@ pub struct Margin {
     pub window: u32,
 }
 
-/// The margin of the window of so many ticks that ends the stream: the smaller of ceiling minus sum and sum minus least, and the latter
-/// where there are no ceilings.
+/// The margin of a window with this sum: the smaller of ceiling minus sum and sum minus least, and the latter where there are no ceilings.
+fn sum_margin(pair: &Pair, window: usize, total: u64) -> i64 {
+    let least = total as i64 - pair.least(window) as i64;
+    pair.ceiling(window).map_or(least, |most| least.min(most as i64 - total as i64))
+}
+
+/// That of the window of so many ticks that ends the stream.
 pub fn window_margin(pair: &Pair, stream: &[u32], window: usize) -> i64 {
-    let total = sum(&stream[stream.len() - window..]) as i64;
-    let least = total - pair.least(window) as i64;
-    pair.ceiling(window).map_or(least, |most| least.min(most as i64 - total))
+    sum_margin(pair, window, sum(&stream[stream.len() - window..]))
 }
 
 /// The margin of the last tick of the stream. Of the windows that have the same one, the shortest is the least in the order of pairs.
 pub fn margin(pair: &Pair, stream: &[u32]) -> Margin {
-    (1..=pair.horizon().min(stream.len()))
-        .map(|window| (window_margin(pair, stream, window), window as u32))
+    ending_windows(stream)
+        .take(pair.horizon())
+        .map(|(window, total)| (sum_margin(pair, window, total), window as u32))
         .min()
         .map_or(Margin::default(), |(smallest, window)| Margin { smallest, window })
 }
@@ -63,27 +74,15 @@ pub fn ruling(given: &Pair, closed: &Pair, stream: &[u32]) -> u32 {
     }
 }
 
-/// The verdicts on a list of counts. After the first that is not passed nothing is judged any more.
-fn verdicts(given: &Pair, closed: &Pair, counts: &[u32]) -> Vec<u32> {
-    let mut list = Vec::new();
-    for end in 1..=counts.len() {
-        let last = ruling(given, closed, &counts[..end]);
-        list.push(last);
-        if last != PASSED {
-            break;
-        }
-    }
-    list.resize(counts.len(), ALREADY_FAILED);
-    list
-}
-
 /// The range: the smallest and the largest count that could follow the stream, or nothing where none could. Without ceilings the largest
 /// is the limit of a figure.
 pub fn range(pair: &Pair, stream: &[u32]) -> Option<(u32, u32)> {
     let mut lo = 0;
     let mut hi = i64::from(if pair.unlimited() { LIMIT } else { u32::MAX });
-    for window in 1..=pair.horizon().min(stream.len() + 1) {
-        let before = sum(&stream[stream.len() + 1 - window..]) as i64;
+    // The window of one tick has nothing before its last tick, and each other the window that is shorter by one.
+    let shorter = [(0, 0)].into_iter().chain(ending_windows(stream));
+    for (ticks, before) in shorter.take(pair.horizon()) {
+        let (window, before) = (ticks + 1, before as i64);
         lo = lo.max(pair.least(window) as i64 - before);
         hi = pair.ceiling(window).map_or(hi, |most| hi.min(most as i64 - before));
     }
@@ -114,43 +113,4 @@ pub fn sent(pair: &Pair, choices: &[u32]) -> Vec<u32> {
         }
     }
     list
-}
-
-/// The closed figures by which a monitor judges beside those given: without ceilings there are none, and it closes nothing.
-fn closed_for_monitor(given: &Pair) -> Option<Pair> {
-    if given.unlimited() {
-        Some(given.clone())
-    } else {
-        closure(given)
-    }
-}
-
-/// A script through a monitor, questions included: the last of them is whether there is a closure.
-pub fn judge_into(pair: &Pair, script: &mut [u32]) -> u32 {
-    let number = opening(pair, None);
-    if number != 0 {
-        return number;
-    }
-    match closed_for_monitor(pair) {
-        None => 5,
-        Some(closed) => {
-            let list = verdicts(pair, &closed, script);
-            script.copy_from_slice(&list);
-            0
-        }
-    }
-}
-
-/// A script through a generator, questions included: the last of them is whether the pair is its own closure.
-pub fn generate_into(pair: &Pair, script: &mut [u32]) -> u32 {
-    let number = opening(pair, None);
-    if number != 0 {
-        return number;
-    }
-    if !closes_to_itself(pair) {
-        return 15;
-    }
-    let list = sent(pair, script);
-    script.copy_from_slice(&list);
-    0
 }

@@ -1,4 +1,4 @@
-//! What is tested: five operations on lists. The product is one implementor; the reference and every mutant are others.
+//! What is tested: nine operations on lists. The product is one implementor; the reference and every mutant are others.
 
 /// The greatest figure of a pair.
 pub const LIMIT: u32 = 16_776_960;
@@ -18,7 +18,11 @@ pub const HEADER: &[u8] = b"window,least,most";
 /// The bit of an answer that says that the pair has no ceilings. What is below it is the value.
 pub const UNLIMITED: u64 = 65_536;
 
-/// Entries of scripts: verdicts, and a refusal in the place of a count.
+/// How many words a state has.
+pub const GENERATOR_WORDS: usize = 771;
+pub const MONITOR_WORDS: usize = 1_284;
+
+/// Answers of ticks: verdicts, and a refusal in the place of a count.
 pub const PASSED: u32 = 0;
 pub const TOO_MANY: u32 = 1_000;
 pub const TOO_FEW: u32 = 2_000;
@@ -28,14 +32,52 @@ pub const REFUSED: u32 = 4_000_000_000;
 /// What stands for a count where there is none that could be sent.
 pub const NO_COUNT: u32 = REFUSED + 13;
 
+/// What a script comes to that did not run to its end. No opening is refused with this.
+const CUT_SHORT: u32 = REFUSED;
+
 /// A pair is its ceilings, its leasts and its mark: any number but 0 says that there are no ceilings, and that the first list gives the
-/// horizon and nothing else.
+/// horizon and nothing else. A state is a list of words (`words`).
 pub trait Subject: Sync {
     fn close(&self, upper: &[u32], lower: &[u32], mark: u32, closed_upper: &mut [u32], closed_lower: &mut [u32]) -> u64;
     fn read(&self, text: &[u8], upper: &mut [u32], lower: &mut [u32]) -> u64;
     fn report(&self, text: &[u8], output: &mut [u8]) -> usize;
-    fn judge(&self, upper: &[u32], lower: &[u32], mark: u32, script: &mut [u32]) -> u32;
-    fn generate(&self, upper: &[u32], lower: &[u32], mark: u32, script: &mut [u32]) -> u32;
+    fn render(&self, upper: &[u32], lower: &[u32], mark: u32, output: &mut [u8]) -> i64;
+    fn open_monitor(&self, upper: &[u32], lower: &[u32], mark: u32, state: &mut [u32]) -> u32;
+    fn open_generator(&self, upper: &[u32], lower: &[u32], mark: u32, state: &mut [u32]) -> u32;
+    fn run_monitor(&self, state: &mut [u32], counts: &[u32], verdicts: &mut [u32], margins: &mut [i64]) -> i64;
+    fn run_generator(&self, state: &mut [u32], choices: &[u32], counts: &mut [u32]) -> i64;
+    fn look(&self, state: &[u32]) -> i64;
+
+    /// A script: a monitor is opened on the pair and gets the whole list, and what is answered takes the place of the counts.
+    fn judge(&self, upper: &[u32], lower: &[u32], mark: u32, script: &mut [u32]) -> u32 {
+        let mut state = [0; MONITOR_WORDS];
+        let number = self.open_monitor(upper, lower, mark, &mut state);
+        if number != 0 {
+            return number;
+        }
+        let counts = script.to_vec();
+        whole(self.run_monitor(&mut state, &counts, script, &mut []), script)
+    }
+
+    /// The same with a generator and choices.
+    fn generate(&self, upper: &[u32], lower: &[u32], mark: u32, script: &mut [u32]) -> u32 {
+        let mut state = [0; GENERATOR_WORDS];
+        let number = self.open_generator(upper, lower, mark, &mut state);
+        if number != 0 {
+            return number;
+        }
+        let choices = script.to_vec();
+        whole(self.run_generator(&mut state, &choices, script), script)
+    }
+}
+
+/// 0 where as many ticks ran as the script has entries.
+fn whole(ran: i64, script: &[u32]) -> u32 {
+    if ran == script.len() as i64 {
+        0
+    } else {
+        CUT_SHORT
+    }
 }
 
 /// The answer of a refused closing or reading.

@@ -89,10 +89,45 @@ pub const OPENED: &str = "opening a generator, by search (0 opened, 15 not)";
 pub const START: &str = "a start (0 not extendable, 1 extendable)";
 pub const JUDGED: &str = "a stream, by search (0 passed, 1 many, 2 few, 4 lost)";
 pub const EQUAL: &str = "two closures (0 differ, 1 equal)";
+pub const MONITOR_WORDS_OPENED: &str = "opening a monitor's words (0: opened)";
+pub const GENERATOR_WORDS_OPENED: &str = "opening a generator's words (0: opened)";
+pub const CUT: &str = "lists (0 whole, 1 in pieces, 2 tick by tick)";
+pub const PIECE: &str = "room of a piece (0 none, 1 less, 2 as due, 3 more, 4 empty)";
+pub const MARGINS_ROOM: &str = "room for margins (0 none, 1 less, 2 as due, 3 more)";
+pub const SEAM: &str = "a seam (0 none held, 1 some; 2, 3 the same, failed)";
+pub const BUILT_RUN: &str = "runs on words by hand (0 ran, 12 refused)";
+pub const BUILT_WHY: &str = "12 for (length, sizes 1 to 3, figures 4, 5; 10 more: empty)";
+pub const BUILT_TAKEN: &str = "taken (past H 0, 1; without ceilings 2, 3; marks 4, 5)";
+pub const MONITOR_LENGTH: &str = "12 for a monitor's words of this number";
+pub const GENERATOR_LENGTH: &str = "12 for a generator's words of this number";
+pub const BUILT_VERDICT: &str = "the first tick on words by hand (0 to 4 verdicts)";
+pub const BUILT_LATER: &str = "later ticks on words by hand (0 to 4 verdicts)";
+pub const BUILT_BOTH: &str = "words by hand, many and few at once, 1 in one window";
+pub const BUILT_COUNT: &str = "sent by hand (0 a count, 1 none; later 2, 3, 4 none again)";
+pub const BUILT_LOOK: &str = "looks at words by hand (0 a range, 12 or 13 refused)";
+pub const RENDERED: &str = "rendering refused with (0: a text)";
+pub const RENDER_ROOM: &str = "rendered into a list (0 short, 1 exact, 2 longer)";
+pub const LONG_MANY: &str = "too many after thousands of ticks, window";
+pub const LONG_FEW: &str = "too few after thousands of ticks, window";
+pub const LONG_LOST: &str = "lost after thousands of ticks, window";
+pub const LONG_UNLIMITED: &str = "too few after thousands without ceilings, window";
+pub const LONG_TOTAL: &str = "a long list's counts (0 below 2^32, 1 above)";
+pub const LONG_SENT: &str = "thousands of ticks sent, horizon up to";
+pub const BORDER_COUNT: &str = "a count amid a list";
+pub const BORDER_HELD: &str = "held at a power of two (0 less, 1 as much, 2 more)";
+pub const BORDER_LIST: &str = "counted at a power of two (0 less, 1 as much, 2 more)";
+pub const BORDER_FEW: &str = "too few after such sums, window (0: passed)";
+pub const BORDER_SENT: &str = "sent at a power of two (0 less, 1 as much, 2 more)";
+pub const BORDER_SENT_AFTER: &str = "sent after holding such sums";
 
 const SOME_WINDOWS: &[u32] = &[1, 2, 3, 4, 8, 12, 256];
 /// Horizons by kind, each up to one of these.
 const HORIZONS: &[u32] = &[1, 2, 3, 4, 8, 12, 64, 255, 256];
+
+/// Windows that long lists must break.
+const LONG_WINDOWS: &[u32] = &[1, 16, 255, 256];
+/// The powers of two from 29 to 32, each with one less, as much and one more.
+const POWERS: &[u32] = &[290, 291, 292, 300, 301, 302, 310, 311, 312, 320, 321, 322];
 
 /// The kind of a horizon.
 pub fn horizon_end(horizon: usize) -> u32 {
@@ -186,6 +221,49 @@ const DUE: &[(&str, &[u32])] = &[
     (UNLIMITED_MARGIN, &[0, 1, 2]),
     (UNLIMITED_RUN, &[0]),
     (UNLIMITED_RUN_TICK, &[0, 2, 3]),
+    (MONITOR_WORDS_OPENED, &[0, 1, 2, 4, 5, 12]),
+    (GENERATOR_WORDS_OPENED, &[0, 1, 2, 4, 12, 15]),
+    (CUT, &[0, 1, 2]),
+    (PIECE, &[0, 1, 2, 3, 4]),
+    (MARGINS_ROOM, &[0, 1, 2, 3]),
+    (SEAM, &[0, 1, 2, 3]),
+    (BUILT_RUN, &[0, 12]),
+    (BUILT_WHY, &[0, 1, 2, 3, 4, 5, 10, 11, 12, 13, 14, 15]),
+    (BUILT_TAKEN, &[0, 1, 2, 3, 4, 5]),
+    (MONITOR_LENGTH, &[0, 1, 770, 771, 772, 1_283, 1_285]),
+    (GENERATOR_LENGTH, &[0, 1, 770, 772, 1_283, 1_284, 1_285]),
+    (BUILT_VERDICT, &[0, 1, 2, 3, 4]),
+    (BUILT_LATER, &[0, 1, 2, 3, 4]),
+    (BUILT_BOTH, &[0, 1]),
+    (BUILT_COUNT, &[0, 1, 2, 3, 4]),
+    (BUILT_LOOK, &[0, 12, 13]),
+    (RENDERED, &[0, 1, 2, 4]),
+    (RENDER_ROOM, &[0, 1, 2]),
+    (LONG_MANY, LONG_WINDOWS),
+    (LONG_FEW, LONG_WINDOWS),
+    (LONG_LOST, LONG_WINDOWS),
+    (LONG_UNLIMITED, LONG_WINDOWS),
+    (LONG_TOTAL, &[0, 1]),
+    (LONG_SENT, &[64, 255, 256]),
+    (
+        BORDER_COUNT,
+        &[
+            16_776_960,
+            16_776_961,
+            536_870_911,
+            536_870_912,
+            536_870_913,
+            2_147_483_648,
+            4_294_967_294,
+            4_294_967_295,
+        ],
+    ),
+    (BORDER_HELD, POWERS),
+    (BORDER_LIST, POWERS),
+    (BORDER_FEW, &[0, 1, 2, 3, 4]),
+    // 255 ticks of at most 16,776,960 have less than 2^32 together.
+    (BORDER_SENT, &[290, 291, 292, 300, 301, 302, 310, 311, 312]),
+    (BORDER_SENT_AFTER, POWERS),
 ];
 
 impl Tally {

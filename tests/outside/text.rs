@@ -1,6 +1,7 @@
 //! Constraint texts by cutting: the text into lines at CR LF, a line into fields at commas.
 
 use crate::pair::{closure, Pair};
+use crate::rounds::opening;
 use crate::subject::{answered, refused, HEADER, LONGEST_HORIZON, LONGEST_TEXT, TEXT_LIMIT};
 
 struct Record {
@@ -156,25 +157,40 @@ fn closure_of(text: &[u8]) -> Result<Pair, u32> {
     closure(&pair(text)?).ok_or(5)
 }
 
+/// The text of a pair: the header and a record for each window.
+pub fn written(pair: &Pair) -> Vec<u8> {
+    let mut text = format!("{}\r\n", String::from_utf8_lossy(HEADER));
+    for window in 1..=pair.horizon() {
+        let most = pair.ceiling(window).map_or(String::new(), |most| most.to_string());
+        text += &format!("{window},{},{most}\r\n", pair.least(window));
+    }
+    text.into_bytes()
+}
+
 /// All that is to be written for a text, and the number of the refusal in it or 0.
 pub fn report(text: &[u8]) -> (Vec<u8>, u32) {
     match closure_of(text) {
         Err(number) => (format!("refused {number}\r\n").into_bytes(), number),
-        Ok(closed) => {
-            let mut written = format!("{}\r\n", String::from_utf8_lossy(HEADER));
-            for window in 1..=closed.horizon() {
-                let most = closed.ceiling(window).map_or(String::new(), |most| most.to_string());
-                written += &format!("{window},{},{most}\r\n", closed.least(window));
-            }
-            (written.into_bytes(), 0)
-        }
+        Ok(closed) => (written(&closed), 0),
     }
 }
 
-/// A report into a list that may be too short for it.
+/// Bytes into a list that may be too short for them; how many there are.
+fn put_into(bytes: &[u8], output: &mut [u8]) -> usize {
+    let room = bytes.len().min(output.len());
+    output[..room].copy_from_slice(&bytes[..room]);
+    bytes.len()
+}
+
+/// A report as a whole.
 pub fn report_into(text: &[u8], output: &mut [u8]) -> usize {
-    let (written, _) = report(text);
-    let room = written.len().min(output.len());
-    output[..room].copy_from_slice(&written[..room]);
-    written.len()
+    put_into(&report(text).0, output)
+}
+
+/// Rendering as a whole: the questions of an opening on the pair, then its text.
+pub fn render_into(pair: &Pair, output: &mut [u8]) -> i64 {
+    match opening(pair, None) {
+        0 => put_into(&written(pair), output) as i64,
+        number => -i64::from(number),
+    }
 }

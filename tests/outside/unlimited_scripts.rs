@@ -36,7 +36,7 @@ fn long_window(rng: &mut Rng) -> (Pair, Vec<u32>) {
 }
 
 /// A pair, and counts for a monitor on it.
-fn for_monitor(rng: &mut Rng) -> (Pair, Vec<u32>) {
+pub fn for_monitor(rng: &mut Rng) -> (Pair, Vec<u32>) {
     if rng.one_in(10) {
         let (pair, script) = long_window(rng);
         let mut counts = sent(&pair, &script);
@@ -55,7 +55,7 @@ fn for_monitor(rng: &mut Rng) -> (Pair, Vec<u32>) {
 }
 
 /// A pair, and choices for a generator on it, of which some are those that the largest count, and the smallest again, stand for.
-fn for_generator(rng: &mut Rng) -> (Pair, Vec<u32>) {
+pub fn for_generator(rng: &mut Rng) -> (Pair, Vec<u32>) {
     if rng.one_in(10) {
         return long_window(rng);
     }

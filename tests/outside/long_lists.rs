@@ -1,0 +1,189 @@
+//! Long lists: streams that pass for thousands of ticks, on figures that they just keep, and at the last one break exactly one window by
+//! one message. States built by hand have it in the figures as given, in the closed ones or in both, so that neither may be left out. And
+//! lists of choices as long, on closed pairs.
+
+use crate::built::{self, state_words};
+use crate::pair::Pair;
+use crate::pieces::List;
+use crate::random::Rng;
+use crate::reference::Reference;
+use crate::script_cases::choices;
+use crate::sendings::check_passed;
+use crate::streams::sum;
+use crate::subject::{Subject, GENERATOR_WORDS, LIMIT, LONGEST_HORIZON, LOST, PASSED, TOO_FEW, TOO_MANY};
+use crate::tally::{horizon_end, Tally, LONG_FEW, LONG_LOST, LONG_MANY, LONG_SENT, LONG_TOTAL, LONG_UNLIMITED};
+use crate::window_sums::{extremes, figures};
+use crate::words::Kind;
+use crate::{pairs, unlimited_pairs};
+
+fn horizon(rng: &mut Rng) -> usize {
+    let (short, any) = (rng.length(1, 4), rng.length(1, LONGEST_HORIZON));
+    rng.pick(&[LONGEST_HORIZON, LONGEST_HORIZON, 255, 16, 17, short, any])
+}
+
+fn length(rng: &mut Rng) -> usize {
+    rng.length(1_300, 3_500)
+}
+
+/// Which figures the last tick breaks. The last are those of a state without ceilings.
+#[derive(Clone, Copy, PartialEq)]
+enum Broken {
+    Given,
+    Closed,
+    Both,
+    Leasts,
+}
+
+/// A stream whose counts repeat after a window's length, so that every sum of that window is the same, but for the last tick.
+struct Stream {
+    counts: Vec<u32>,
+    /// So many of them are held when the list begins.
+    held: usize,
+    horizon: usize,
+    window: usize,
+    /// Whether the last tick has one message more, or one fewer.
+    more: bool,
+}
+
+impl Stream {
+    fn new(rng: &mut Rng, horizon: usize, window: usize, more: bool, length: usize) -> Stream {
+        // The largest are such that no window has more than the limit; with a short horizon all ticks have more than 2^32 together.
+        let scale = rng.pick(&[1, 3, 50, LIMIT / horizon as u32 - 1]);
+        let period: Vec<u32> = (0..window).map(|_| rng.between(1, scale)).collect();
+        let mut counts: Vec<u32> = period.iter().copied().cycle().take(length).collect();
+        counts[length - 1] = if more { counts[length - 1] + 1 } else { counts[length - 1] - 1 };
+        let between = rng.length(0, horizon - 1);
+        Stream {
+            counts,
+            held: rng.pick(&[0, horizon - 1, between]),
+            horizon,
+            window,
+            more,
+        }
+    }
+
+    fn drawn(rng: &mut Rng, more: bool) -> Stream {
+        let horizon = horizon(rng);
+        let any = rng.length(1, horizon);
+        let window = rng.pick(&[1, 16, 255, 256, horizon, any]).min(horizon);
+        let length = length(rng);
+        Stream::new(rng, horizon, window, more, length)
+    }
+
+    /// Figures that the stream keeps, and next to none that it keeps by more than so many.
+    fn kept(&self, rng: &mut Rng, slack: u32) -> Pair {
+        let found = extremes(&self.counts, self.held, self.counts.len(), self.horizon);
+        let mut pair = Pair::new(&figures(&found.largest), &figures(&found.smallest));
+        for window in 1..=self.horizon {
+            let (most, least) = (u64::from(pair.upper[window - 1]), pair.lower[window - 1]);
+            pair.set_upper(window, most + u64::from(rng.below(slack + 1)));
+            pair.lower[window - 1] = least.saturating_sub(rng.below(slack + 1));
+        }
+        pair
+    }
+
+    /// The same with what every sum of the window is before the last tick, so that this breaks it.
+    fn broken(&self, rng: &mut Rng, slack: u32) -> Pair {
+        let mut pair = self.kept(rng, slack);
+        let sum = self.counts[..self.window].iter().sum();
+        if self.more {
+            pair.upper[self.window - 1] = sum;
+        } else {
+            pair.lower[self.window - 1] = sum;
+        }
+        pair
+    }
+
+    /// The words of a state whose figures the last tick breaks, and no tick before it.
+    fn words(&self, rng: &mut Rng, broken: Broken) -> Vec<u32> {
+        let slack = rng.pick(&[0, 0, 1, 9]);
+        let mut given = match broken {
+            Broken::Closed => self.kept(rng, slack),
+            _ => self.broken(rng, slack),
+        };
+        let mut closed = match broken {
+            Broken::Given => self.kept(rng, slack),
+            _ => self.broken(rng, slack),
+        };
+        if broken == Broken::Leasts {
+            given = Pair::marked(&rng.arbitrary(self.horizon), &given.lower, 7);
+            closed = Pair::new(&rng.arbitrary(self.horizon), &closed.lower);
+        }
+        let mut words = state_words(given, closed, &self.counts[..self.held]);
+        if rng.one_in(2) {
+            built::fill_rest(rng, &mut words);
+        }
+        words
+    }
+
+    /// What the last tick must come to, and as what it is tallied.
+    fn due(&self, broken: Broken) -> (u32, &'static str) {
+        let window = self.window as u32;
+        match broken {
+            Broken::Closed => (LOST, LONG_LOST),
+            Broken::Leasts => (TOO_FEW + window, LONG_UNLIMITED),
+            _ if self.more => (TOO_MANY + window, LONG_MANY),
+            _ => (TOO_FEW + window, LONG_FEW),
+        }
+    }
+
+    /// The list in all ways in which it can be cut, or without the calls of single ticks.
+    fn check(&self, subject: &dyn Subject, rng: &mut Rng, broken: Broken, ticks: bool, tally: &mut Tally) -> Result<(), String> {
+        let words = self.words(rng, broken);
+        let mut counts = self.counts[self.held..].to_vec();
+        let last = counts.len() - 1;
+        counts.extend(rng.arbitrary(3));
+        let list = List::new(Kind::Monitor, &words, &counts)?;
+        let (due, tallied) = self.due(broken);
+        let (passed, rest) = list.trace.answers.split_at(last);
+        if passed.iter().any(|&answer| answer != PASSED) || rest[0] != due {
+            let lists = format!("words {words:?}\n  counts {counts:?}");
+            return Err(format!("the reference does not say {due} of tick {last}\n  {lists}"));
+        }
+        tally.note(tallied, self.window as u32);
+        tally.note(LONG_TOTAL, u32::from(sum(&counts[..last]) > u64::from(u32::MAX)));
+        match ticks {
+            true => list.check_cuts(subject, rng, tally),
+            false => list.check_pieces(subject, rng, tally),
+        }
+    }
+}
+
+pub fn compare_monitor(subject: &dyn Subject, rng: &mut Rng, tally: &mut Tally) -> Result<(), String> {
+    let more = rng.one_in(2);
+    let last = if more { Broken::Both } else { Broken::Leasts };
+    let broken = rng.pick(&[Broken::Given, Broken::Closed, Broken::Both, last]);
+    Stream::drawn(rng, more).check(subject, rng, broken, true, tally)
+}
+
+/// Every window of the longest horizon in turn, on lists that are shorter.
+pub fn compare_every_window(subject: &dyn Subject, rng: &mut Rng, tally: &mut Tally) -> Result<(), String> {
+    for window in 1..=LONGEST_HORIZON {
+        let kinds = [
+            (Broken::Given, true),
+            (Broken::Given, false),
+            (Broken::Closed, rng.one_in(2)),
+            (Broken::Leasts, false),
+        ];
+        for (broken, more) in kinds {
+            Stream::new(rng, LONGEST_HORIZON, window, more, 600).check(subject, rng, broken, false, tally)?;
+        }
+    }
+    Ok(())
+}
+
+pub fn compare_generator(subject: &dyn Subject, rng: &mut Rng, tally: &mut Tally) -> Result<(), String> {
+    let horizon = horizon(rng);
+    let pair = match rng.one_in(4) {
+        true => unlimited_pairs::closure_of_any(rng, horizon),
+        false => pairs::closure_of_any(rng, horizon),
+    };
+    let mut words = [0; GENERATOR_WORDS];
+    Kind::Generator.open(&Reference, &pair, &mut words);
+    let length = length(rng);
+    let choices = choices(rng, length);
+    let list = List::new(Kind::Generator, &words, &choices)?;
+    tally.note(LONG_SENT, horizon_end(horizon));
+    list.check_cuts(subject, rng, tally)?;
+    check_passed(subject, &pair, &list.trace.answers)
+}
