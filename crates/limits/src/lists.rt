@@ -74,29 +74,33 @@ fn try_pair(upper: &[u32], lower: &[u32], mark: u32) {
     try_generator(upper, lower, mark);
 }
 
-// What is judged takes the place of the counts; where the opening is refused, they stay.
+// The verdicts, or where the opening is refused the counts.
 fn try_monitor(upper: &[u32], lower: &[u32], mark: u32) {
     let counts = [LIMIT, LIMIT + 1];
     let mut verdicts = counts;
     let mut state = [7u32; MONITOR_WORDS];
     let number = exports::calgedze_monitor_open(upper, lower, mark, &mut state);
-    if number == 0 {
-        exports::calgedze_monitor_run(&mut state, &counts, &mut verdicts, &mut []);
-    }
     numbers::show(number as u64);
+    if number != 0 {
+        numbers::show(numbers::digest(&counts));
+        return;
+    }
+    exports::calgedze_monitor_run(&mut state, &counts, &mut verdicts, &mut []);
     numbers::show(numbers::digest(&verdicts));
 }
 
-// Likewise what is sent.
+// Likewise the counts that are sent, or the choices.
 fn try_generator(upper: &[u32], lower: &[u32], mark: u32) {
     let choices = [LIMIT, LIMIT + 1];
     let mut counts = choices;
     let mut state = [7u32; GENERATOR_WORDS];
     let number = exports::calgedze_generator_open(upper, lower, mark, &mut state);
-    if number == 0 {
-        exports::calgedze_generator_run(&mut state, &choices, &mut counts);
-    }
     numbers::show(number as u64);
+    if number != 0 {
+        numbers::show(numbers::digest(&choices));
+        return;
+    }
+    exports::calgedze_generator_run(&mut state, &choices, &mut counts);
     numbers::show(numbers::digest(&counts));
 }
 
