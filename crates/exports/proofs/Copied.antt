@@ -1,5 +1,6 @@
 -- What is copied of a report, and of a text that is rendered. Assumes nothing.
-use Rattle.laws.proofs.Base.{ℕ, _≤_, _≡_, sym, ap, _∙_, subst, List, ⊎-elim, _-_, arith, length, replicate, length-append, take, take-append-seam}
+use Rattle.laws.proofs.Base.{ℕ, _≤_, _≡_, sym, ap, _∙_, subst, List, ⊎-elim, _-_, arith, length, replicate, length-append, take}
+use Rattle.laws.proofs.Base.{take-append-seam}
 use Rattle.laws.specs.Writing.{over}
 use Rattle.curves.specs.Unlimited.{AnyPair}
 use Rattle.curves.specs.Questions.{ask}

@@ -98,7 +98,8 @@ moved-turn xs out k i h so-far =
     let there : getD (take i (drop k xs) ++ drop i xs) (length (take i (drop k xs)) + k) 0 ≡ getD (drop i xs) k 0 =
     getD-append-add (take i (drop k xs)) (drop i xs) k 0 in
     let same : getD out (i + k) 0 ≡ getD (drop k xs) i 0 =
-    ap (λ t. getD t (i + k) 0) so-far ∙ ap (λ m. getD (take i (drop k xs) ++ drop i xs) (m + k) 0) (sym long) ∙ there ∙ getD-drop i xs k 0 ∙ ap (λ m. getD xs m 0) (omega arith) ∙ sym (getD-drop k xs i 0) in
+    ap (λ t. getD t (i + k) 0) so-far ∙ ap (λ m. getD (take i (drop k xs) ++ drop i xs) (m + k) 0) (sym long) ∙ there ∙ getD-drop i xs k 0
+    ∙ ap (λ m. getD xs m 0) (omega arith) ∙ sym (getD-drop k xs i 0) in
     ap (set out i) same ∙ copied-more (drop k xs) xs out i so-far (omega (arith, length-drop k xs)) (omega arith)
 
 module _ (found : List ℕ) (n : ℕ) (xs : List ℕ) where
@@ -112,10 +113,15 @@ module _ (found : List ℕ) (n : ℕ) (xs : List ℕ) where
   pub pushed-over : length found ≤ length xs → (left : List ℕ)
       → left ≡ over (midOf (length xs - length found) (length xs - (length xs - length found)) xs) found
       → PushedAll found n xs left (length found)
-  pushed-over h left e = record { entries = e ∙ ap (λ ys. over ys found) (last ∙ sym is); number = sym (ap length is ∙ omega (arith, length-drop (length xs - length found) xs)) }
+  pushed-over h left e = record {
+    entries = e ∙ ap (λ ys. over ys found) (last ∙ sym is);
+    number = sym
+        (ap length is ∙ omega (arith, length-drop (length xs - length found) xs));
+  }
     where
       last : midOf (length xs - length found) (length xs - (length xs - length found)) xs ≡ drop (length xs - length found) xs
-      last = take-all (length xs - (length xs - length found)) (drop (length xs - length found) xs) (omega (arith, length-drop (length xs - length found) xs))
+      last = take-all (length xs - (length xs - length found)) (drop (length xs - length found) xs)
+          (omega (arith, length-drop (length xs - length found) xs))
 
       is : heldWithAll found n xs ≡ drop (length xs - length found) xs
       is =
@@ -167,7 +173,8 @@ module _ (found : List ℕ) (n : ℕ) (xs : List ℕ) where
               ∙ sym (getD-drop (there - kept) found i 0)
               ∙ sym (getD-take kept (drop (there - kept) found) i 0 i-kept))
 
-      whole : take kept (movedDown (there - kept) kept found) ++ over xs (drop kept (movedDown (there - kept) kept found)) ≡ over (heldWithAll found n xs) found
+      whole : take kept (movedDown (there - kept) kept found) ++ over xs (drop kept (movedDown (there - kept) kept found)) ≡ over
+          (heldWithAll found n xs) found
       whole =
           rw (take-at front (drop kept found) kept front-length, drop-at front (drop kept found) kept front-length, is)
           (ap (λ ys. front ++ (ys ++ drop (length xs) (drop kept found)))

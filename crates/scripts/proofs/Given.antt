@@ -1,6 +1,7 @@
 -- What the operations on words give back: refused with 12, or run. Assumes nothing.
 use Rattle.laws.proofs.Base.{ℕ, suc, _+_, _-_, _≤_, _<_, min, _≡_, refl, sym, ap, _∙_, subst⁻¹, Bool, List, [], _∷_, _++_, map, inl, arith}
-use Rattle.laws.proofs.Base.{length, take, drop, take-all, length-take-le, append-nil, drop-of-length-le, decLe, take-at, length-drop, length-append}
+use Rattle.laws.proofs.Base.{length, take, drop, take-all, length-take-le, append-nil, drop-of-length-le, decLe, take-at, length-drop}
+use Rattle.laws.proofs.Base.{length-append}
 use lib.IntN.{ℤ}
 use lib.ListN.{take-append-drop}
 use lib.Seq.{drop-nil}

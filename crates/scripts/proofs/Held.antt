@@ -1,6 +1,7 @@
 -- The held ticks after counts that pass, and after counts that are sent: the last of all. Assumes nothing.
 use Rattle.laws.proofs.Base.{ℕ, zero, suc, _+_, _-_, _≤_, _<_, _≡_, refl, sym, ap, _∙_, Bool, true, false, List, [], _∷_, _++_, map, arith}
-use Rattle.laws.proofs.Base.{append-assoc, append-nil, decLt, length, getD, set, sets, take, drop, replicate, length-drop, ext-getD, take-all}
+use Rattle.laws.proofs.Base.{append-assoc, append-nil, decLt, length, getD, set, sets, take, drop, replicate, length-drop, ext-getD}
+use Rattle.laws.proofs.Base.{take-all}
 use Rattle.laws.proofs.Base.{length-take-le, length-replicate, drop-of-length-le, lt-ltb}
 use lib.ListN.{take-append-drop, length-map}
 use lib.Seq.{set-getD, getD-set-same}
@@ -18,7 +19,8 @@ use Rattle.monitor.specs.Calls.{monitorAfter, afterTick, afterTicks, rulings}
 use Rattle.generator.specs.Generating.{sending}
 use Rattle.generator.specs.Calls.{viewAfter, sendings, afterSendings}
 use Rattle.scripts.specs.Codes.{rulingCode, sendingCode}
-use Rattle.scripts.specs.Words.{markFrom, word, part, historyFrom, monitorFrom, LegalMonitorWords, LegalGeneratorWords, generatorWords}
+use Rattle.scripts.specs.Words.{markFrom, word, part, historyFrom, monitorFrom, LegalMonitorWords, LegalGeneratorWords}
+use Rattle.scripts.specs.Words.{generatorWords}
 use Rattle.scripts.specs.Words.{withHeld, failedWord, monitorLeft}
 use Rattle.scripts.specs.Steps.{PassesFirst, SendsFirst}
 use Rattle.scripts.specs.Runs.{heldAfter, JudgedFirst, SentFirst}
@@ -68,7 +70,8 @@ module _ (w : MonitorView) where
       ap (λ u. afterTicks u xs) start ∙ passes-on (w .view .held) xs (ap (λ u. rulings u xs) (sym start) ∙ e)
 
 -- ---- counts that are sent
-sent-on : (v : View) (ys xs cs : List ℕ) → sendings (lasting v ys) xs ≡ map result cs → afterSendings (lasting v ys) xs ≡ lasting v (ys ++ cs)
+sent-on : (v : View) (ys xs cs : List ℕ) → sendings (lasting v ys) xs ≡ map result cs → afterSendings (lasting v ys) xs ≡ lasting v
+    (ys ++ cs)
 unfolding sendings afterSendings
 sent-on v ys [] [] e = ap (lasting v) (sym (append-nil ys))
 sent-on v ys [] (c ∷ cs) e = let z : _≡_ {A = ℕ} 0 1 = cc e in absurd (omega arith)

@@ -96,7 +96,8 @@ module _ (ws xs ys vs us : List ℕ) (ms ns : List ℤ) (e : length vs ≡ lengt
     margins-are : over (values w (xs ++ ys)) (ms ++ ns) ≡ over (values w xs) ms ++ over (values (afterTicks w xs) ys) ns
     margins-are = ⊎-elim each none m
       where
-        each : length ms ≡ length xs → over (values w (xs ++ ys)) (ms ++ ns) ≡ over (values w xs) ms ++ over (values (afterTicks w xs) ys) ns
+        each : length ms ≡ length xs → over (values w (xs ++ ys)) (ms ++ ns) ≡ over (values w xs) ms ++ over (values (afterTicks w xs) ys)
+            ns
         each k =
             ap (λ t. over t (ms ++ ns)) (values-append w xs ys)
             ∙ over-append (values w xs) (values (afterTicks w xs) ys) ms ns (k ∙ sym (values-length w xs))

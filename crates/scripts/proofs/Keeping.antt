@@ -176,7 +176,8 @@ module _ (ceilings leasts xs counts : List ℕ) where
       subst (λ us. KeptSums us k′ sums) e
       (record { sum-is = λ d m. K .sum-is d (omega arith); small = λ d m. K .small d (omega arith) })
 
-  pub passing-none : length xs < length ceilings → (sums : List ℕ) → KeptSums xs (length xs) sums → Passing sums (length ceilings - 1 - length xs) 0
+  pub passing-none : length xs < length ceilings → (sums : List ℕ) → KeptSums xs (length xs) sums → Passing sums
+      (length ceilings - 1 - length xs) 0
   passing-none fewer sums K =
       record {
         place = omega arith;
@@ -213,11 +214,13 @@ module _ (ceilings leasts xs counts : List ℕ) where
             place = omega (arith, p .place);
             sums-kept =
                 kept-to _ _ _ _ _ on (omega arith)
-                (next-kept sums ceilings leasts (before i) P first (behind first) here (p .sums-kept) held (getD counts i 0) grown r G within);
+                (next-kept sums ceilings leasts (before i) P first (behind first) here (p .sums-kept) held (getD counts i 0) grown r G
+                within);
             keeps =
                 below-more (λ k. KeepsTurned ceilings leasts (before (suc k))) i (p .keeps)
                 (subst (KeepsTurned ceilings leasts) (before-next i l)
-                (next-keeps sums ceilings leasts (before i) P first (behind first) here (p .sums-kept) held (getD counts i 0) grown r G within
+                (next-keeps sums ceilings leasts (before i) P first (behind first) here (p .sums-kept) held (getD counts i 0) grown r G
+                within
                 none-longer));
           }
         where

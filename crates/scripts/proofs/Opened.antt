@@ -1,6 +1,7 @@
 -- The words that an opening writes, one field behind the other. Assumes nothing.
 use Rattle.laws.proofs.Base.{ℕ, suc, _+_, _-_, _≤_, _<_, _≡_, refl, sym, ap, _∙_, subst, Bool, true, false, List, [], _∷_, _++_, arith}
-use Rattle.laws.proofs.Base.{append-assoc, append-nil, length, set, take, drop, replicate, length-append, length-set, length-drop, length-replicate}
+use Rattle.laws.proofs.Base.{append-assoc, append-nil, length, set, take, drop, replicate, length-append, length-set, length-drop}
+use Rattle.laws.proofs.Base.{length-replicate}
 use Rattle.laws.proofs.Base.{length-take-le, take-all, take-at, drop-of-length-le, inl, inr}
 use lib.ListN.{length-take}
 use lib.Seq.{take-suc-set}
@@ -147,7 +148,8 @@ monitor-written ws ps cs n e =
     let long : length (ps ++ drop 771 ws) ≡ 1_284 = length-append ps (drop 771 ws) ∙ omega (arith, length-drop 771 ws) in
     let front : take 771 (ps ++ drop 771 ws) ≡ ps = take-at ps (drop 771 ws) 771 e in
     let none : drop (length (ps ++ drop 771 ws) - 771) (drop 771 (ps ++ drop 771 ws)) ≡ [] =
-    drop-of-length-le (drop 771 (ps ++ drop 771 ws)) {i = length (ps ++ drop 771 ws) - 771} (omega (arith, length-drop 771 (ps ++ drop 771 ws))) in
+    drop-of-length-le (drop 771 (ps ++ drop 771 ws)) {i = length (ps ++ drop 771 ws) - 771}
+    (omega (arith, length-drop 771 (ps ++ drop 771 ws))) in
     (λ i. front i ++ (cs ++ none i)) ∙ ap (λ t. ps ++ t) (append-nil cs)
 
 pub opened-length : (us ls : List ℕ) (b : Bool) → length us ≤ 256 → length ls ≤ 256 → length (openedWords (withMark us ls b)) ≡ 771
@@ -184,7 +186,8 @@ closed-is us ls false m is =
     windows = sym (horizon-seen (m .history)) ∙ ap (λ (p : AnyPair). horizon (curvesOf p)) pair
 
 -- ---- the questions
-module _ (qs : List Question) (y : AllYes qs → Unit {0}) (numbered : ¬ (replyTo qs y ≡ refusal 0)) (r : ℕ) (e : r ≡ replyNumber (replyTo qs y)) where
+module _ (qs : List Question) (y : AllYes qs → Unit {0}) (numbered : ¬ (replyTo qs y ≡ refusal 0)) (r : ℕ)
+    (e : r ≡ replyNumber (replyTo qs y)) where
   pub asked-yes : r ≡ 0 → AllYes qs
   asked-yes z = go (replyTo qs y) refl
     where
@@ -228,7 +231,8 @@ module _ (us ls : List ℕ) (b : Bool) (r : ℕ) (found : List ℕ) where
     unfolding monitorOpened
     monitor-long z h = into-length (monitorQuestions p) monitorWords (openedMonitorWords p) found (monitor-asked z) h
 
-    pub monitor-begun : r ≡ 0 → length found ≡ monitorWords → (left : List ℕ) → left ≡ openedMonitorWords p → opened 0 left ≡ monitorOpened p found
+    pub monitor-begun : r ≡ 0 → length found ≡ monitorWords → (left : List ℕ) → left ≡ openedMonitorWords p → opened 0 left ≡
+        monitorOpened p found
     unfolding monitorOpened
     monitor-begun z h left is = into-written (monitorQuestions p) monitorWords (openedMonitorWords p) found left (monitor-asked z) h is
 
@@ -245,7 +249,8 @@ module _ (us ls : List ℕ) (b : Bool) (r : ℕ) (found : List ℕ) where
     unfolding generatorOpened
     generator-long z h = into-length (generatorQuestions p) generatorWords (openedWords p) found (generator-asked z) h
 
-    pub generator-begun : r ≡ 0 → length found ≡ generatorWords → (left : List ℕ) → left ≡ openedWords p → opened 0 left ≡ generatorOpened p found
+    pub generator-begun : r ≡ 0 → length found ≡ generatorWords → (left : List ℕ) → left ≡ openedWords p → opened 0 left ≡ generatorOpened
+        p found
     unfolding generatorOpened
     generator-begun z h left is = into-written (generatorQuestions p) generatorWords (openedWords p) found left (generator-asked z) h is
 

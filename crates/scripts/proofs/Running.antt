@@ -1,6 +1,7 @@
 -- A loop that answers the entries of a list one after the other, carrying a state, into another list. Assumes nothing.
 use Rattle.laws.proofs.Base.{ℕ, suc, _+_, _-_, _≤_, _<_, _≡_, refl, sym, ap, _∙_, List, [], _∷_, _++_, map, arith, append-assoc, append-nil}
-use Rattle.laws.proofs.Base.{add-one, length, getD, set, take, drop, length-append, length-drop, drop-of-length-le, length-take-le, drop-cons}
+use Rattle.laws.proofs.Base.{add-one, length, getD, set, take, drop, length-append, length-drop, drop-of-length-le, length-take-le}
+use Rattle.laws.proofs.Base.{drop-cons}
 use Rattle.laws.proofs.Base.{take-suc, take-all, set-at, decLt}
 use mathlib.Core.List.{map-append}
 use lib.IntN.{ℤ}
@@ -38,7 +39,8 @@ over-more ys y found i e =
           ∙ ap (λ n. (ys ++ (y ∷ [])) ++ drop n found) more)
       | no l ↦
           let none : drop (length ys) found ≡ [] = drop-of-length-le found {i = length ys} (omega arith) in
-          let gone : drop (length (ys ++ (y ∷ []))) found ≡ [] = drop-of-length-le found {i = length (ys ++ (y ∷ []))} (omega (arith, more)) in
+          let gone : drop (length (ys ++ (y ∷ []))) found ≡ [] = drop-of-length-le found {i = length (ys ++ (y ∷ []))}
+          (omega (arith, more)) in
           let short : length (take (length found) ys) ≡ length found = length-take-le (length found) ys (omega arith) in
           ap (λ t. set t i y) (ap (λ t. take (length found) ys ++ t) none ∙ append-nil (take (length found) ys))
           ∙ set-out (take (length found) ys) i y (omega (arith, short))
@@ -90,7 +92,8 @@ values-length w xs = length-map (margins w xs) (λ (m : Margin). m .value) ∙ m
 pub sends-length : (v : View) (xs : List ℕ) → length (sends v xs) ≡ length xs
 sends-length v xs = length-map (sendings v xs) sendingCode ∙ sendings-length v xs
 
-codes-one : (w : MonitorView) (xs : List ℕ) (x : ℕ) → codes w (xs ++ (x ∷ [])) ≡ codes w xs ++ (rulingCode (judging (afterTicks w xs) x) ∷ [])
+codes-one : (w : MonitorView) (xs : List ℕ) (x : ℕ) → codes w (xs ++ (x ∷ [])) ≡ codes w xs ++
+    (rulingCode (judging (afterTicks w xs) x) ∷ [])
 unfolding rulings
 codes-one w xs x = codes-append w xs (x ∷ [])
 
@@ -106,7 +109,8 @@ after-one : (w : MonitorView) (xs : List ℕ) (x : ℕ) → afterTicks w (xs ++ 
 unfolding afterTicks
 after-one w xs x = after-append w xs (x ∷ [])
 
-sent-one : (v : View) (xs : List ℕ) (x : ℕ) → afterSendings v (xs ++ (x ∷ [])) ≡ viewAfter (sending (afterSendings v xs) x) (afterSendings v xs)
+sent-one : (v : View) (xs : List ℕ) (x : ℕ) → afterSendings v (xs ++ (x ∷ [])) ≡ viewAfter (sending (afterSendings v xs) x)
+    (afterSendings v xs)
 unfolding afterSendings
 sent-one v xs x = sent-append v xs (x ∷ [])
 
@@ -142,7 +146,8 @@ module _ (v : View) (xs : List ℕ) (i : ℕ) (l : i < length xs) (u : View) (is
       ∙ ap (afterSendings v) (rw (add-one i) (sym (take-suc xs i 0 l)))
 
 -- ---- the end of each: no entry of the list is left
-pub put-all : {S : Type 0} (run : S → List ℕ → List ℕ) → ((s : S) (ys : List ℕ) → length (run s ys) ≡ length ys) → (s : S) (xs : List ℕ) (i : ℕ)
+pub put-all : {S : Type 0} (run : S → List ℕ → List ℕ) → ((s : S) (ys : List ℕ) → length (run s ys) ≡ length ys) → (s : S) (xs : List ℕ)
+    (i : ℕ)
     → length xs ≤ i → (found out : List ℕ) → length found ≡ length xs → out ≡ over (run s (take i xs)) found → out ≡ run s xs
 put-all run run-length s xs i h found out e f =
     f ∙ ap (λ t. over (run s t) found) (take-all i xs h) ∙ over-whole (run s xs) found (e ∙ sym (run-length s xs))

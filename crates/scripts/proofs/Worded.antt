@@ -1,11 +1,13 @@
 -- Words: what is read of them after other held ticks and another failed mark have been written. Assumes nothing.
 use Rattle.laws.proofs.Base.{ℕ, zero, suc, _+_, _-_, _≤_, _<_, _≡_, refl, sym, ap, _∙_, Bool, true, false, List, [], _∷_, _++_, arith}
-use Rattle.laws.proofs.Base.{length, getD, set, sets, take, drop, length-set, length-drop, length-take-le, ext-getD, getD-drop, decLt, lt-ltb, eqb, ne-eqb, eq-eqb, _&&_}
+use Rattle.laws.proofs.Base.{length, getD, set, sets, take, drop, length-set, length-drop, length-take-le, ext-getD, getD-drop, decLt}
+use Rattle.laws.proofs.Base.{lt-ltb, eqb, ne-eqb, eq-eqb, _&&_}
 use Rattle.laws.proofs.Base.{append-assoc, append-nil, add-one, take-all, replicate, length-replicate, drop-cons, drop-of-length-le, set-at}
 use Rattle.laws.specs.Writing.{over}
 use lib.ListN.{length-take, take-append-drop, replicate-append-replicate}
 use borrow.Rule.Slice.PartMut.{midOf, putMid}
-use lib.Seq.{getD-take, getD-set-same, getD-set-other, length-sets, take-take, set-set, set-comm, set-getD, set-append-left, take-set-lt, drop-set-lt}
+use lib.Seq.{getD-take, getD-set-same, getD-set-other, length-sets, take-take, set-set, set-comm, set-getD, set-append-left, take-set-lt}
+use lib.Seq.{drop-set-lt}
 use lib.Seq.{drop-append-le, drop-drop, sets-eq}
 use Rattle.curves.specs.Pairs.{pairOf}
 use Rattle.curves.specs.Ticks.{newest}
@@ -187,13 +189,15 @@ module _ (ws : List ℕ) (w : MonitorView) (long : length ws ≡ monitorWords) (
       (λ j p q. held-after ws (w .view .held) enough few j (omega arith))
 
   pub left-view : monitorViewOf (monitorFrom left)
-      ≡ monitorView (with ws (w .view .held) enough few) (monitorViewOf (monitorFrom ws) .closed) (markFrom (failedWord (word 1_283 ws) (w .failed)))
+      ≡ monitorView (with ws (w .view .held) enough few) (monitorViewOf (monitorFrom ws) .closed)
+      (markFrom (failedWord (word 1_283 ws) (w .failed)))
   left-view =
       let v : viewOf (historyFrom left) ≡ with ws (w .view .held) enough few =
       ap viewOf left-history ∙ held-view ws (w .view .held) enough few in
       let h : word 0 left ≡ word 0 ws = left-other 0 (λ e. omega arith) ∙ held-before ws (w .view .held) enough few 0 (omega arith) in
       λ i. monitorView (v i)
-      (closedIn (v i .pair) (pairOf (entries (h i) (left-closed 771 (omega arith) (omega arith) i)) (entries (h i) (left-closed 1_027 (omega arith) (omega arith) i))))
+      (closedIn (v i .pair) (pairOf (entries (h i) (left-closed 771 (omega arith) (omega arith) i))
+      (entries (h i) (left-closed 1_027 (omega arith) (omega arith) i))))
       (markFrom (left-failed i))
 
 -- The failed mark: one that is set stays set.
@@ -236,7 +240,8 @@ left-left ws w w′ long few more fails =
     b = failedWord (word 1_283 ws) (w′ .failed)
 
 -- The failed mark is written where it was not set and is to be.
-pub failed-set : (ws : List ℕ) (b : Bool) → (b && eqb (word 1_283 ws) 0) ≡ true → set ws 1_283 1 ≡ set ws 1_283 (failedWord (word 1_283 ws) b)
+pub failed-set : (ws : List ℕ) (b : Bool) → (b && eqb (word 1_283 ws) 0) ≡ true → set ws 1_283 1 ≡ set ws 1_283
+    (failedWord (word 1_283 ws) b)
 failed-set ws b e = ap (set ws 1_283) (go (word 1_283 ws) b e)
   where
     go : (n : ℕ) (b : Bool) → (b && eqb n 0) ≡ true → 1 ≡ failedWord n b

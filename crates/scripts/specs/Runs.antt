@@ -56,10 +56,11 @@ pub record JudgedRest (ws xs : List ℕ) (ms : List ℤ) (left after : List ℕ)
   pub margins-left : margins-after ≡ over (marginValues (margins (monitorViewOf (monitorFrom ws)) xs)) ms
 
 -- The same with the state by value.
-pub record JudgedByValue (w : MonitorView) (xs : List ℕ) (ms : List ℤ) (after : List ℕ) (margins-after : List ℤ) (r : Monitor) : Type 0 where
-  pub state : monitorViewOf r ≡ afterTicks w xs
-  pub verdicts : after ≡ map rulingCode (rulings w xs)
-  pub margins-left : margins-after ≡ over (marginValues (margins w xs)) ms
+pub record JudgedByValue (w : MonitorView) (xs : List ℕ) (ms : List ℤ) (after : List ℕ) (margins-after : List ℤ) (r : Monitor) : Type 0
+  where
+    pub state : monitorViewOf r ≡ afterTicks w xs
+    pub verdicts : after ≡ map rulingCode (rulings w xs)
+    pub margins-left : margins-after ≡ over (marginValues (margins w xs)) ms
 
 -- ---- choices
 -- The first n of the choices are sent, all are, and the same with the state by value.

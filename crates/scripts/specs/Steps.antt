@@ -43,8 +43,8 @@ pub record KeptSums (xs : List ℕ) (k : ℕ) (sums : List ℕ) : Type 0 where
   pub small : (d : ℕ) → d ≤ k → last xs d ≤ sumLimit
 
 -- ---- counts that pass
--- The stricter of two ceilings and of two leasts, one as given and one closed. Without ceilings there is nothing but the least as given, and
--- for the ceiling the limit.
+-- The stricter of two ceilings and of two leasts, one as given and one closed. Without ceilings there is nothing but the least as given,
+-- and for the ceiling the limit.
 abbrev pub strictCeiling : Bool → ℕ → ℕ → ℕ
 strictCeiling true given closed = sumLimit
 strictCeiling false given closed = min given closed

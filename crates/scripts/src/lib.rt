@@ -33,8 +33,8 @@ const NO_COUNT: u64 = 18_446_744_073_709_551_603;
 // The largest count of an admissible range stands in the upper 32 bits.
 const UPPER_HALF: u64 = 4_294_967_296;
 
-// Opens a monitor on the pair of `upper` and `lower`, and writes it into `state`; where it is refused, nothing is written. Where `unlimited`
-// is set the pair has no ceilings: `upper` gives the horizon alone.
+// Opens a monitor on the pair of `upper` and `lower`, and writes it into `state`; where it is refused, nothing is written. Where
+// `unlimited` is set the pair has no ceilings: `upper` gives the horizon alone.
 pub fn open_monitor(upper: &[u32], lower: &[u32], unlimited: bool, state: &mut [u32]) -> u32
     ensures { λ r. ⌜ opened r (now (state .exit))
         ≡ monitorOpened (withMark (now (upper .entry)) (now (lower .entry)) unlimited) (now (state .entry)) ⌝ }

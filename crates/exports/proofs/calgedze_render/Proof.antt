@@ -11,12 +11,14 @@ array-share-prefix-bytes : tie.Need-array-share-prefix-bytes
 array-share-prefix-bytes c = rendered-within _ (c .before .render .result) (c .before .render .ensures)
 
 slice-aggregate-copy-bytes : tie.Need-slice-aggregate-copy-bytes
-slice-aggregate-copy-bytes c = sym (length-take-le _ _ (rendered-within _ (c .before .before .render .result) (c .before .before .render .ensures)))
+slice-aggregate-copy-bytes c =
+    sym (length-take-le _ _ (rendered-within _ (c .before .before .render .result) (c .before .before .render .ensures)))
 
 returns : tie.Need-returns
 returns c =
     let told = c .before .before .before .before .before .before .before .render in
-    rendered-into _ (told .result) _ (c .before .before .before .before .before .before .before .before .before .before .before .args .output .now) _ (told .ensures) (c .rendering-number .ensures) (c .before .before .before .copy-bytes .ensures)
+    rendered-into _ (told .result) _ (c .before .before .before .before .before .before .before .before .before .before .before .args
+    .output .now) _ (told .ensures) (c .rendering-number .ensures) (c .before .before .before .copy-bytes .ensures)
 
 pub calgedze-render-spec : {M : Type 1} → statement M
 calgedze-render-spec =

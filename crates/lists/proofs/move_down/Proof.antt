@@ -13,14 +13,19 @@ abbrev μ-loop : tie.MeasureT-loop
 
 loop-again : tie.Need-loop-again Inv-loop μ-loop
 loop-again c =
-    let head = c .before .before .loop in
-    (omega (arith, c .before .loop-test .taken), search needs, moved-turn _ (head .list) _ (head .i) (omega (arith, c .before .loop-test .taken)) (head .inv .2))
+    let head = c .before .before .loop in (
+      omega (arith, c .before .loop-test .taken),
+      search needs,
+      moved-turn _ (head .list) _ (head .i)
+          (omega (arith, c .before .loop-test .taken)) (head .inv .2),
+    )
 
 returns : tie.Need-returns Inv-loop μ-loop
 returns c =
     let end = c .before .loop in
     let e : end .i ≡ c .before .before .args .n = omega (arith, c .loop-test .left, end .inv .0) in
-    end .inv .2 ∙ ap (λ k. take k (drop (c .before .before .args .by) (c .before .before .args .list .now)) ++ drop k (c .before .before .args .list .now)) e
+    end .inv .2 ∙ ap (λ k. take k (drop (c .before .before .args .by) (c .before .before .args .list .now)) ++ drop k
+    (c .before .before .args .list .now)) e
 
 pub move-down-spec : {M : Type 1} → statement M
 move-down-spec =

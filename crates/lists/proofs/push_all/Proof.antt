@@ -19,8 +19,10 @@ returns-2 c =
     let first = moved .before .before .before .smaller .ensures in
     let kept = moved .before .before .smaller2 .result in
     pushed-behind (args .list .now) (args .held) (args .counts .now) kept
-    (omega (arith, moved .before .before .before .before .if1 .left)) (moved .before .before .smaller2 .ensures ∙ ap (λ k. min k (length (args .list .now) - length (args .counts .now))) first) _ _ _
-    (moved .move-down .ensures ∙ ap (λ k. movedDown (k - kept) kept (args .list .now)) first) (c .before .before .copy2 .ensures .entries) refl
+    (omega (arith, moved .before .before .before .before .if1 .left))
+    (moved .before .before .smaller2 .ensures ∙ ap (λ k. min k (length (args .list .now) - length (args .counts .now))) first) _ _ _
+    (moved .move-down .ensures ∙ ap (λ k. movedDown (k - kept) kept (args .list .now)) first) (c .before .before .copy2 .ensures .entries)
+    refl
 
 pub push-all-spec : {M : Type 1} → statement M
 push-all-spec =

@@ -26,7 +26,8 @@ send-legal-requires c κs =
     let m = c .before .before .before in
     let s = m .before .before .before .before .before .before .before in (
       told-yes _ (m .before .before .legal-generator .result) (m .before .if1 .left) (m .before .before .legal-generator .ensures),
-      length-take-le (m .smaller .result) (s .args .counts .now) (omega (arith, m .smaller .ensures)) ∙ sym (length-take-le (m .smaller .result) (s .args .choices .now) (omega (arith, m .smaller .ensures))),
+      length-take-le (m .smaller .result) (s .args .counts .now) (omega (arith, m .smaller .ensures)) ∙ sym
+          (length-take-le (m .smaller .result) (s .args .choices .now) (omega (arith, m .smaller .ensures))),
     )
 
 returns-2 : tie.Need-returns-2
@@ -34,7 +35,8 @@ returns-2 c =
     let m = c .before .before .before .before .before .before .before .before in
     let s = m .before .before .before .before .before .before .before in
     sent-run (s .args .state .now) (s .args .choices .now) (s .args .counts .now) (m .smaller .result) _ _
-    (told-yes _ (m .before .before .legal-generator .result) (m .before .if1 .left) (m .before .before .legal-generator .ensures)) (m .smaller .ensures) (c .before .before .before .before .send-legal .ensures)
+    (told-yes _ (m .before .before .legal-generator .result) (m .before .if1 .left) (m .before .before .legal-generator .ensures))
+    (m .smaller .ensures) (c .before .before .before .before .send-legal .ensures)
 
 pub generate-spec : {M : Type 1} → statement M
 generate-spec =

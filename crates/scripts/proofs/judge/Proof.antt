@@ -26,7 +26,8 @@ judge-legal-requires c κs =
     let m = c .before .before .before .before in
     let s = m .before .before .before .before .before .before .before in (
       told-yes _ (m .before .before .legal-monitor .result) (m .before .if1 .left) (m .before .before .legal-monitor .ensures),
-      length-take-le (m .smaller .result) (s .args .verdicts .now) (omega (arith, m .smaller .ensures)) ∙ sym (length-take-le (m .smaller .result) (s .args .counts .now) (omega (arith, m .smaller .ensures))),
+      length-take-le (m .smaller .result) (s .args .verdicts .now) (omega (arith, m .smaller .ensures)) ∙ sym
+          (length-take-le (m .smaller .result) (s .args .counts .now) (omega (arith, m .smaller .ensures))),
     )
 
 returns-2 : tie.Need-returns-2
@@ -34,7 +35,8 @@ returns-2 c =
     let m = c .before .before .before .before .before .before .before .before .before .before in
     let s = m .before .before .before .before .before .before .before in
     judged-run (s .args .state .now) (s .args .counts .now) (s .args .verdicts .now) (s .args .margins .now) (m .smaller .result) _ _ _
-    (told-yes _ (m .before .before .legal-monitor .result) (m .before .if1 .left) (m .before .before .legal-monitor .ensures)) (m .smaller .ensures) (c .before .before .before .before .before .judge-legal .ensures)
+    (told-yes _ (m .before .before .legal-monitor .result) (m .before .if1 .left) (m .before .before .legal-monitor .ensures))
+    (m .smaller .ensures) (c .before .before .before .before .before .judge-legal .ensures)
 
 pub judge-spec : {M : Type 1} → statement M
 judge-spec =

@@ -15,10 +15,13 @@ use Rattle.scripts.proofs.words.legal_generator.Reads as legal-generato
 use Rattle.scripts.proofs.words.read_history.Reads as read-history-reads
 
 returns : tie.Need-returns
-returns c = sym (looked-bad (c .before .before .before .args .state .now) (told-no _ (c .before .legal-generator .result) (c .if1 .taken) (c .before .legal-generator .ensures)))
+returns c =
+    sym (looked-bad (c .before .before .before .args .state .now)
+    (told-no _ (c .before .legal-generator .result) (c .if1 .taken) (c .before .legal-generator .ensures)))
 
 read-history-requires : tie.Need-read-history-requires
-read-history-requires c κs = omega (arith, told-yes _ (c .before .legal-generator .result) (c .if1 .left) (c .before .legal-generator .ensures) .0)
+read-history-requires c κs =
+    omega (arith, told-yes _ (c .before .legal-generator .result) (c .if1 .left) (c .before .legal-generator .ensures) .0)
 
 range-number-requires : tie.Need-range-number-requires
 range-number-requires c κs = tt
@@ -28,7 +31,8 @@ returns-2 c =
     let ws = c .before .before .before .before .before .before .args .state .now in
     let asked = c .before .before .before .before .legal-generator in
     let l = told-yes _ (asked .result) (c .before .before .before .if1 .left) (asked .ensures) in
-    c .range-number .ensures ∙ ap rangeNumber (c .before .range .ensures ∙ ap (λ (h : History). ranging (viewOf h)) (c .before .before .read-history .ensures))
+    c .range-number .ensures ∙ ap rangeNumber (c .before .range .ensures ∙ ap (λ (h : History). ranging (viewOf h))
+    (c .before .before .read-history .ensures))
     ∙ sym (looked-legal ws l)
 
 pub look-spec : {M : Type 1} → statement M

@@ -26,18 +26,24 @@ told : (n : tie.After-generator-opening-number) → let a = start n .args in
 told n = n .generator-opening-number .ensures ∙ ap replyNumber (n .before .«open» .ensures .answer)
 
 -- Both lists fit, where it is not refused.
-fits : (n : tie.After-generator-opening-number) → n .generator-opening-number .result ≡ 0 → let a = start n .args in PairFits (a .upper .now) (a .lower .now)
+fits : (n : tie.After-generator-opening-number) → n .generator-opening-number .result ≡ 0 → let a = start n .args in PairFits
+    (a .upper .now) (a .lower .now)
 fits n z =
     let a = start n .args in
     let p = withMark (a .upper .now) (a .lower .now) (a .unlimited) in
     lists-fit (a .upper .now) (a .lower .now) (a .unlimited)
-    (yes-parts (pairQuestions p) (question15 p ∷ []) (generator-asked (a .upper .now) (a .lower .now) (a .unlimited) _ (a .state .now) (told n) z) .0)
+    (yes-parts (pairQuestions p) (question15 p ∷ []) (generator-asked (a .upper .now) (a .lower .now) (a .unlimited) _ (a .state .now)
+    (told n) z) .0)
 
 returns : tie.Need-returns
-returns c = let n = c .before in let a = start n .args in generator-refused (a .upper .now) (a .lower .now) (a .unlimited) _ (a .state .now) (told n) (c .if1 .taken)
+returns c =
+    let n = c .before in let a = start n .args in generator-refused (a .upper .now) (a .lower .now) (a .unlimited) _ (a .state .now)
+    (told n) (c .if1 .taken)
 
 returns-2 : tie.Need-returns-2
-returns-2 c = let n = c .before .before in let a = start n .args in generator-long (a .upper .now) (a .lower .now) (a .unlimited) _ (a .state .now) (told n) (c .before .if1 .left) (c .if2 .taken)
+returns-2 c =
+    let n = c .before .before in let a = start n .args in generator-long (a .upper .now) (a .lower .now) (a .unlimited) _ (a .state .now)
+    (told n) (c .before .if1 .left) (c .if2 .taken)
 
 write-pair-requires : tie.Need-write-pair-requires
 write-pair-requires c κs = let n = c .before .before .before in (c .before .if2 .left, fits n (c .before .before .if1 .left))
@@ -46,7 +52,9 @@ returns-3 : tie.Need-returns-3
 returns-3 c =
     let n = c .before .before .before .before .before .before in
     let a = start n .args in
-    generator-begun (a .upper .now) (a .lower .now) (a .unlimited) _ (a .state .now) (told n) (c .before .before .before .before .before .if1 .left) (c .before .before .before .before .if2 .left) _ (c .before .before .write-pair .ensures)
+    generator-begun (a .upper .now) (a .lower .now) (a .unlimited) _ (a .state .now) (told n)
+    (c .before .before .before .before .before .if1 .left) (c .before .before .before .before .if2 .left) _
+    (c .before .before .write-pair .ensures)
 
 pub open-generator-spec : {M : Type 1} → statement M
 open-generator-spec =

@@ -26,18 +26,24 @@ told : (n : tie.After-monitor-opening-number) → let a = start n .args in
 told n = n .monitor-opening-number .ensures ∙ ap replyNumber (n .before .before .«open» .ensures .answer)
 
 -- Both lists fit, where it is not refused.
-fits : (n : tie.After-monitor-opening-number) → n .monitor-opening-number .result ≡ 0 → let a = start n .args in PairFits (a .upper .now) (a .lower .now)
+fits : (n : tie.After-monitor-opening-number) → n .monitor-opening-number .result ≡ 0 → let a = start n .args in PairFits (a .upper .now)
+    (a .lower .now)
 fits n z =
     let a = start n .args in
     let p = withMark (a .upper .now) (a .lower .now) (a .unlimited) in
     lists-fit (a .upper .now) (a .lower .now) (a .unlimited)
-    (yes-parts (pairQuestions p) (question5 p ∷ []) (monitor-asked (a .upper .now) (a .lower .now) (a .unlimited) _ (a .state .now) (told n) z) .0)
+    (yes-parts (pairQuestions p) (question5 p ∷ []) (monitor-asked (a .upper .now) (a .lower .now) (a .unlimited) _ (a .state .now)
+    (told n) z) .0)
 
 returns : tie.Need-returns
-returns c = let n = c .before in let a = start n .args in monitor-refused (a .upper .now) (a .lower .now) (a .unlimited) _ (a .state .now) (told n) (c .if1 .taken)
+returns c =
+    let n = c .before in let a = start n .args in monitor-refused (a .upper .now) (a .lower .now) (a .unlimited) _ (a .state .now)
+    (told n) (c .if1 .taken)
 
 returns-2 : tie.Need-returns-2
-returns-2 c = let n = c .before .before in let a = start n .args in monitor-long (a .upper .now) (a .lower .now) (a .unlimited) _ (a .state .now) (told n) (c .before .if1 .left) (c .if2 .taken)
+returns-2 c =
+    let n = c .before .before in let a = start n .args in monitor-long (a .upper .now) (a .lower .now) (a .unlimited) _ (a .state .now)
+    (told n) (c .before .if1 .left) (c .if2 .taken)
 
 write-monitor-requires : tie.Need-write-monitor-requires
 write-monitor-requires c κs = let n = c .before .before .before in (c .before .if2 .left, fits n (c .before .before .if1 .left))
@@ -47,10 +53,13 @@ returns-3 c =
     let n = c .before .before .before .before .before .before in
     let a = start n .args in
     let p = withMark (a .upper .now) (a .lower .now) (a .unlimited) in
-    monitor-begun (a .upper .now) (a .lower .now) (a .unlimited) _ (a .state .now) (told n) (c .before .before .before .before .before .if1 .left) (c .before .before .before .before .if2 .left) _ (c .before .before .write-monitor .ensures
+    monitor-begun (a .upper .now) (a .lower .now) (a .unlimited) _ (a .state .now) (told n)
+    (c .before .before .before .before .before .if1 .left) (c .before .before .before .before .if2 .left) _
+    (c .before .before .write-monitor .ensures
     ∙ ap (λ t. openedWords (withMark (a .upper .now) (a .lower .now) (a .unlimited)) ++ t)
     (closed-is (a .upper .now) (a .lower .now) (a .unlimited) (n .before .before .«open» .result .state)
-    (subst (λ o. MonitorBegun o p (n .before .before .«open» .result .state)) (opened-tt p _ (told n) (c .before .before .before .before .before .if1 .left)) (n .before .before .«open» .ensures .state))))
+    (subst (λ o. MonitorBegun o p (n .before .before .«open» .result .state))
+    (opened-tt p _ (told n) (c .before .before .before .before .before .if1 .left)) (n .before .before .«open» .ensures .state))))
 
 pub open-monitor-spec : {M : Type 1} → statement M
 open-monitor-spec =

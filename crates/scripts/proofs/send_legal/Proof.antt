@@ -8,16 +8,26 @@ use Rattle.scripts.proofs.generating.send_first.Reads as send-first-rea
 use Rattle.scripts.proofs.generating.send_rest.Reads as send-rest-reads
 
 send-rest-requires : tie.Need-send-rest-requires
-send-rest-requires c κs = let f = c .before .before .before .before .before .before .before .before in let s = c .before .before .before .before .before .before .before .before .before .before .before .before .before .before in
-    sent-asked (s .args .state .now) (s .args .choices .now) (s .args .counts .now) (s .pre .0) (s .pre .1) (f .send-first .result) _ _ (f .send-first .ensures)
+send-rest-requires c κs =
+    let f = c .before .before .before .before .before .before .before .before in let s = c .before .before .before .before .before .before
+    .before .before .before .before .before .before .before .before in
+    sent-asked (s .args .state .now) (s .args .choices .now) (s .args .counts .now) (s .pre .0) (s .pre .1) (f .send-first .result) _ _
+    (f .send-first .ensures)
 
 returns : tie.Need-returns
-returns c = let f = c .before .before .before .before .before .before .before .before .before .before .before .before .before in let s = c .before .before .before .before .before .before .before .before .before .before .before .before .before .before .before .before .before .before .before in
-    sent-both (s .args .state .now) (s .args .choices .now) (s .args .counts .now) (s .pre .0) (s .pre .1) (f .send-first .result) _ _ (f .send-first .ensures) _ _ (c .before .before .before .before .send-rest .ensures)
+returns c =
+    let f = c .before .before .before .before .before .before .before .before .before .before .before .before .before in let s = c .before
+    .before .before .before .before .before .before .before .before .before .before .before .before .before .before .before .before
+    .before .before in
+    sent-both (s .args .state .now) (s .args .choices .now) (s .args .counts .now) (s .pre .0) (s .pre .1) (f .send-first .result) _ _
+    (f .send-first .ensures) _ _ (c .before .before .before .before .send-rest .ensures)
 
 returns-2 : tie.Need-returns-2
-returns-2 c = let f = c .before .before .before .before .before in let s = c .before .before .before .before .before .before .before .before .before .before .before in
-    sent-all (s .args .state .now) (s .args .choices .now) (s .args .counts .now) (s .pre .0) (s .pre .1) (f .send-first .result) _ _ (f .send-first .ensures) (c .if1 .left)
+returns-2 c =
+    let f = c .before .before .before .before .before in let s = c .before .before .before .before .before .before .before .before .before
+    .before .before in
+    sent-all (s .args .state .now) (s .args .choices .now) (s .args .counts .now) (s .pre .0) (s .pre .1) (f .send-first .result) _ _
+    (f .send-first .ensures) (c .if1 .left)
 
 pub send-legal-spec : {M : Type 1} → statement M
 send-legal-spec =

@@ -29,41 +29,80 @@ add-send-first : tie.Need-add-send-first
 add-send-first c = omega (arith, sizes (c .before .before .before .before .before) .within)
 
 part-send-first-end : tie.Need-part-send-first-end
-part-send-first-end c = omega (arith, sizes (c .before .before .before .before .before .before) .within, c .before .before .before .before .before .before .pre .0 .0)
+part-send-first-end c =
+    omega (
+      arith,
+      sizes (c .before .before .before .before .before .before) .within,
+      c .before .before .before .before .before .before
+          .pre .0 .0,
+    )
 
 add-send-first-2 : tie.Need-add-send-first-2
 add-send-first-2 c = omega (arith, sizes (c .before .before .before .before .before .before .before) .within)
 
 part-send-first-end-2 : tie.Need-part-send-first-end-2
-part-send-first-end-2 c = omega (arith, sizes (c .before .before .before .before .before .before .before) .within, c .before .before .before .before .before .before .before .pre .0 .0)
+part-send-first-end-2 c =
+    omega (
+      arith,
+      sizes (c .before .before .before .before .before .before .before) .within,
+      c .before .before .before .before .before
+          .before .before .pre .0 .0,
+    )
 
 add-send-first-3 : tie.Need-add-send-first-3
-add-send-first-3 c = omega (arith, sizes (c .before .before .before .before .before .before .before .before) .within, sizes (c .before .before .before .before .before .before .before .before) .fewer)
+add-send-first-3 c =
+    omega (
+      arith,
+      sizes (c .before .before .before .before .before .before .before .before) .within,
+      sizes
+          (c .before .before .before .before .before .before .before .before) .fewer,
+    )
 
 part-send-first-end-3 : tie.Need-part-send-first-end-3
-part-send-first-end-3 c = omega (arith, sizes (c .before .before .before .before .before .before .before .before) .within, sizes (c .before .before .before .before .before .before .before .before) .fewer, c .before .before .before .before .before .before .before .before .pre .0 .0)
+part-send-first-end-3 c =
+    omega (
+      arith,
+      sizes (c .before .before .before .before .before .before .before .before) .within,
+      sizes
+          (c .before .before .before .before .before .before .before .before) .fewer,
+      c .before .before .before .before .before .before .before
+          .before .pre .0 .0,
+    )
 
 send-first-requires : tie.Need-send-first-requires
 send-first-requires c κs =
     let s = c .before .before .before .before .before .before .before .before .before .before in
     let ws = s .args .state .now in (
-      slices ws 2 258 (word 0 ws) (word 514 ws) (enough s) (omega (arith, sizes s .within, enough s)) (omega (arith, sizes s .within, enough s))
+      slices ws 2 258 (word 0 ws) (word 514 ws) (enough s) (omega (arith, sizes s .within, enough s))
+          (omega (arith, sizes s .within, enough s))
           (sizes s .within) (sizes s .fewer),
       (
-        subst⁻¹ Legal (view-seen ws (enough s) (sizes s .within) (word 514 ws) (omega (arith, sizes s .within, sizes s .fewer)) refl) (s .pre .0 .1),
+        subst⁻¹ Legal (view-seen ws (enough s) (sizes s .within) (word 514 ws) (omega (arith, sizes s .within, sizes s .fewer)) refl)
+            (s .pre .0 .1),
         s .pre .1,
       ),
     )
 
 slice-aggregate-hold : tie.Need-slice-aggregate-hold
-slice-aggregate-hold c = let sent = c .before .before .before .before .send-first .ensures in sym (length-take-le _ _ (omega (arith, sent .within, sent .whole, c .before .before .before .before .before .before .before .before .before .before .before .before .before .before .before .pre .1)))
+slice-aggregate-hold c =
+    let sent = c .before .before .before .before .send-first .ensures in sym
+    (length-take-le _ _ (omega (
+      arith,
+      sent .within,
+      sent .whole,
+      c .before .before .before .before .before .before .before .before
+          .before .before .before .before .before .before .before .pre .1,
+    )))
 
 returns : tie.Need-returns
 returns c =
-    let s = c .before .before .before .before .before .before .before .before .before .before .before .before .before .before .before .before .before .before in
+    let s = c .before .before .before .before .before .before .before .before .before .before .before .before .before .before .before
+    .before .before .before in
     let ws = s .args .state .now in
     first-sent ws (s .pre .0) _ (s .args .counts .now) _ _ (c .before .before .before .before .before .before .before .send-first .result)
-    (subst (λ v. SendsFirst v (s .args .choices .now) (s .args .counts .now) (c .before .before .before .before .before .before .before .send-first .last .1 .1 .1 .1 .1 .0) (c .before .before .before .before .before .before .before .send-first .result))
+    (subst (λ v. SendsFirst v (s .args .choices .now) (s .args .counts .now)
+    (c .before .before .before .before .before .before .before .send-first .last .1 .1 .1 .1 .1 .0)
+    (c .before .before .before .before .before .before .before .send-first .result))
     (view-seen ws (enough s) (sizes s .within) (word 514 ws) (omega (arith, sizes s .within, sizes s .fewer)) refl)
     (c .before .before .before .before .before .before .before .send-first .ensures)) (s .pre .1) (c .before .before .hold .ensures)
 

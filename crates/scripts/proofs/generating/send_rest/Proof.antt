@@ -26,7 +26,12 @@ told j =
     (j .before .before .read-history .ensures) (j .send-all .ensures)
 
 write-held-requires : tie.Need-write-held-requires
-write-held-requires c κs = let j = c .before .before .before in (omega (arith, start j .pre .0 .0), sent-fit (start j .args .state .now) (start j .pre .0) (start j .args .choices .now) (j .send-all .result .history) (told j .state))
+write-held-requires c κs =
+    let j = c .before .before .before in (
+      omega (arith, start j .pre .0 .0),
+      sent-fit (start j .args .state .now) (start j .pre .0)
+          (start j .args .choices .now) (j .send-all .result .history) (told j .state),
+    )
 
 returns : tie.Need-returns
 returns c =

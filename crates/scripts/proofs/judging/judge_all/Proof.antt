@@ -44,7 +44,8 @@ loop-again c =
       omega (arith, inside),
       search needs,
       search needs,
-      verdict-put w (start .args .counts .now) (head .i) inside m (head .inv .5) (start .args .verdicts .now) (head .verdicts) _ (head .inv .3)
+      verdict-put w (start .args .counts .now) (head .i) inside m (head .inv .5) (start .args .verdicts .now) (head .verdicts) _
+          (head .inv .3)
           (c .before .before .before .before .before .verdict-code .ensures ∙ ap rulingCode (told .tick .ensures .answer)),
       c .before .before .put-margin .ensures ∙ margin-put w (start .args .counts .now) (head .i) inside m (head .inv .5)
           (start .args .margins .now) (head .margins) _ (head .inv .4)

@@ -1,6 +1,7 @@
 -- `scripts::judging::judge_first` meets its contract: the slices are what the words spell, and the counts that pass are held.
 -- Assumes nothing.
-use Rattle.laws.proofs.Base.{_+_, _≤_, _≡_, refl, sym, ap, _∙_, subst, subst⁻¹, _++_, false, arith, needs, length, drop, length-take-le, le-ltb, ℕ}
+use Rattle.laws.proofs.Base.{_+_, _≤_, _≡_, refl, sym, ap, _∙_, subst, subst⁻¹, _++_, false, arith, needs, length, drop, length-take-le}
+use Rattle.laws.proofs.Base.{le-ltb, ℕ}
 use Rattle.history.proofs.Histories.{Sizes, legal-sizes}
 use Rattle.history.specs.Steps.{viewWith}
 use Rattle.curves.specs.Pairs.{pairOf}
@@ -38,7 +39,8 @@ seen s unset =
     (ap markFrom unset)
 
 returns : tie.Need-returns
-returns c = none-judged (c .before .before .before .before .before .args .state .now) (c .before .before .before .before .before .pre .0) _ _
+returns c =
+    none-judged (c .before .before .before .before .before .args .state .now) (c .before .before .before .before .before .pre .0) _ _
 
 cast-horizon : tie.Need-cast-horizon
 cast-horizon c = omega (arith, c .slice-known4 .given 0)
@@ -50,31 +52,70 @@ add-count-passing : tie.Need-add-count-passing
 add-count-passing c = omega (arith, sizes (c .before .before .before .before .before .before .before) .within)
 
 part-count-passing-end : tie.Need-part-count-passing-end
-part-count-passing-end c = omega (arith, sizes (c .before .before .before .before .before .before .before .before) .within, c .before .before .before .before .before .before .before .before .pre .0 .0)
+part-count-passing-end c =
+    omega (
+      arith,
+      sizes (c .before .before .before .before .before .before .before .before) .within,
+      c .before .before .before .before
+          .before .before .before .before .pre .0 .0,
+    )
 
 add-count-passing-2 : tie.Need-add-count-passing-2
 add-count-passing-2 c = omega (arith, sizes (c .before .before .before .before .before .before .before .before .before) .within)
 
 part-count-passing-end-2 : tie.Need-part-count-passing-end-2
-part-count-passing-end-2 c = omega (arith, sizes (c .before .before .before .before .before .before .before .before .before) .within, c .before .before .before .before .before .before .before .before .before .pre .0 .0)
+part-count-passing-end-2 c =
+    omega (
+      arith,
+      sizes (c .before .before .before .before .before .before .before .before .before) .within,
+      c .before .before .before
+          .before .before .before .before .before .before .pre .0 .0,
+    )
 
 add-count-passing-3 : tie.Need-add-count-passing-3
 add-count-passing-3 c = omega (arith, sizes (c .before .before .before .before .before .before .before .before .before .before) .within)
 
 part-count-passing-end-3 : tie.Need-part-count-passing-end-3
-part-count-passing-end-3 c = omega (arith, sizes (c .before .before .before .before .before .before .before .before .before .before) .within, c .before .before .before .before .before .before .before .before .before .before .pre .0 .0)
+part-count-passing-end-3 c =
+    omega (
+      arith,
+      sizes (c .before .before .before .before .before .before .before .before .before .before) .within,
+      c .before .before
+          .before .before .before .before .before .before .before .before .pre .0 .0,
+    )
 
 add-count-passing-4 : tie.Need-add-count-passing-4
-add-count-passing-4 c = omega (arith, sizes (c .before .before .before .before .before .before .before .before .before .before .before) .within)
+add-count-passing-4 c =
+    omega (arith, sizes (c .before .before .before .before .before .before .before .before .before .before .before) .within)
 
 part-count-passing-end-4 : tie.Need-part-count-passing-end-4
-part-count-passing-end-4 c = omega (arith, sizes (c .before .before .before .before .before .before .before .before .before .before .before) .within, c .before .before .before .before .before .before .before .before .before .before .before .pre .0 .0)
+part-count-passing-end-4 c =
+    omega (
+      arith,
+      sizes (c .before .before .before .before .before .before .before .before .before .before .before) .within,
+      c .before
+          .before .before .before .before .before .before .before .before .before .before .pre .0 .0,
+    )
 
 add-count-passing-5 : tie.Need-add-count-passing-5
-add-count-passing-5 c = omega (arith, sizes (c .before .before .before .before .before .before .before .before .before .before .before .before) .within, sizes (c .before .before .before .before .before .before .before .before .before .before .before .before) .fewer)
+add-count-passing-5 c =
+    omega (
+      arith,
+      sizes (c .before .before .before .before .before .before .before .before .before .before .before .before) .within,
+      sizes
+          (c .before .before .before .before .before .before .before .before .before .before .before .before) .fewer,
+    )
 
 part-count-passing-end-5 : tie.Need-part-count-passing-end-5
-part-count-passing-end-5 c = omega (arith, sizes (c .before .before .before .before .before .before .before .before .before .before .before .before) .within, sizes (c .before .before .before .before .before .before .before .before .before .before .before .before) .fewer, c .before .before .before .before .before .before .before .before .before .before .before .before .pre .0 .0)
+part-count-passing-end-5 c =
+    omega (
+      arith,
+      sizes (c .before .before .before .before .before .before .before .before .before .before .before .before) .within,
+      sizes
+          (c .before .before .before .before .before .before .before .before .before .before .before .before) .fewer,
+      c .before .before .before
+          .before .before .before .before .before .before .before .before .before .pre .0 .0,
+    )
 
 count-passing-requires : tie.Need-count-passing-requires
 count-passing-requires c κs =
@@ -84,7 +125,8 @@ count-passing-requires c κs =
     let h = word 0 ws in (
       slices ws 2 258 h (word 514 ws) (enough s) (room s 2 (omega arith)) (room s 258 (omega arith)) (sizes s .within) (sizes s .fewer),
       (
-        slices ws 771 1_027 h (word 514 ws) (enough s) (room s 771 (omega arith)) (room s 1_027 (omega arith)) (sizes s .within) (sizes s .fewer),
+        slices ws 771 1_027 h (word 514 ws) (enough s) (room s 771 (omega arith)) (room s 1_027 (omega arith)) (sizes s .within)
+            (sizes s .fewer),
         (
           slice-length 771 h ws (room s 771 (omega arith)) ∙ sym (slice-length 2 h ws (room s 2 (omega arith))),
           subst⁻¹ LegalMonitor (seen s unset) (s .pre .0 .1),
@@ -96,19 +138,38 @@ slice-aggregate-hold : tie.Need-slice-aggregate-hold
 slice-aggregate-hold c = sym (length-take-le _ _ (c .before .before .count-passing .ensures .0))
 
 hold-requires : tie.Need-hold-requires
-hold-requires c κs = let s = c .before .before .before .before .before .before .before .before .before .before .before .before .before .before .before .before in (enough s, s .pre .0 .1 .given)
+hold-requires c κs =
+    let s = c .before .before .before .before .before .before .before .before .before .before .before .before .before .before .before
+    .before in (enough s, s .pre .0 .1 .given)
 
 slice-aggregate-fill : tie.Need-slice-aggregate-fill
-slice-aggregate-fill c = sym (length-take-le _ _ (omega (arith, c .before .before .before .before .before .before .count-passing .ensures .0, c .before .before .before .before .before .before .before .before .before .before .before .before .before .before .before .before .before .before .before .before .pre .1)))
+slice-aggregate-fill c =
+    sym (length-take-le _ _ (omega (
+      arith,
+      c .before .before .before .before .before .before .count-passing .ensures .0,
+      c .before .before
+          .before .before .before .before .before .before .before .before .before .before .before .before .before .before .before .before
+          .before .before .pre .1,
+    )))
 
 returns-2 : tie.Need-returns-2
 returns-2 c =
-    let s = c .before .before .before .before .before .before .before .before .before .before .before .before .before .before .before .before .before .before .before .before .before .before .before in
+    let s = c .before .before .before .before .before .before .before .before .before .before .before .before .before .before .before
+    .before .before .before .before .before .before .before .before in
     let ws = s .args .state .now in
-    let unset : word 1_283 ws ≡ 0 = omega (arith, c .before .before .before .before .before .before .before .before .before .before .before .before .before .before .before .before .before .before .if1 .left) in
-    first-judged ws (s .pre .0) unset (s .args .counts .now) (s .args .verdicts .now) (c .before .before .before .before .before .before .before .before .before .count-passing .result)
-    (subst (λ w. PassesFirst w (s .args .counts .now) (c .before .before .before .before .before .before .before .before .before .count-passing .result)) (seen s unset) (c .before .before .before .before .before .before .before .before .before .count-passing .ensures))
-    (s .pre .1) _ _ (c .before .before .before .before .before .before .hold .ensures) (ap (λ t. t ++ drop (c .before .before .before .before .before .before .before .before .before .count-passing .result) (s .args .verdicts .now)) (c .before .before .fill .ensures))
+    let unset : word 1_283 ws ≡ 0 = omega (
+      arith,
+      c .before .before .before .before .before .before .before .before .before .before
+          .before .before .before .before .before .before .before .before .if1 .left,
+    ) in
+    first-judged ws (s .pre .0) unset (s .args .counts .now) (s .args .verdicts .now)
+    (c .before .before .before .before .before .before .before .before .before .count-passing .result)
+    (subst (λ w. PassesFirst w (s .args .counts .now) (c .before .before .before .before .before .before .before .before .before
+    .count-passing .result)) (seen s unset) (c .before .before .before .before .before .before .before .before .before .count-passing
+    .ensures))
+    (s .pre .1) _ _ (c .before .before .before .before .before .before .hold .ensures)
+    (ap (λ t. t ++ drop (c .before .before .before .before .before .before .before .before .before .count-passing .result)
+    (s .args .verdicts .now)) (c .before .before .fill .ensures))
 
 pub judge-first-spec : {M : Type 1} → statement M
 judge-first-spec =

@@ -27,7 +27,12 @@ told j =
     (j .before .before .before .read-monitor .ensures) (j .judge-all .ensures)
 
 write-held-requires : tie.Need-write-held-requires
-write-held-requires c κs = let j = c .before .before .before .before in (omega (arith, start j .pre .0 .0), ticks-fit (start j .args .state .now) (start j .pre .0) (start j .args .counts .now) (j .judge-all .result) (told j .state))
+write-held-requires c κs =
+    let j = c .before .before .before .before in (
+      omega (arith, start j .pre .0 .0),
+      ticks-fit (start j .args .state .now)
+          (start j .pre .0) (start j .args .counts .now) (j .judge-all .result) (told j .state),
+    )
 
 returns : tie.Need-returns
 returns c =

@@ -25,7 +25,8 @@ loop-again c =
       omega arith,
       search needs,
       stored (turn .loop .inv .2) _ (omega (arith, room (turn .before)))
-          (c .strict-ceiling .ensures ∙ strict-from (strictCeiling (args .unlimited)) (args .upper .now) (args .closed-upper .now) (turn .loop .i)),
+          (c .strict-ceiling .ensures ∙ strict-from (strictCeiling (args .unlimited)) (args .upper .now) (args .closed-upper .now)
+          (turn .loop .i)),
     )
 
 returns : tie.Need-returns Inv-loop μ-loop

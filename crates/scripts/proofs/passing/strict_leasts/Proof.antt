@@ -25,7 +25,8 @@ loop-again c =
       omega arith,
       search needs,
       stored (turn .loop .inv .2) _ (omega (arith, room (turn .before)))
-          (c .strict-least .ensures ∙ strict-from (strictLeast (args .unlimited)) (args .lower .now) (args .closed-lower .now) (turn .loop .i)),
+          (c .strict-least .ensures ∙ strict-from (strictLeast (args .unlimited)) (args .lower .now) (args .closed-lower .now)
+          (turn .loop .i)),
     )
 
 returns : tie.Need-returns Inv-loop μ-loop

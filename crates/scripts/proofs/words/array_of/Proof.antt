@@ -8,7 +8,9 @@ use Rattle.lists.proofs.copy.Reads as copy-reads
 use Rattle.lists.proofs.zeros.Reads as zeros-reads
 
 returns : tie.Need-returns
-returns c = whole (c .before .copy .ensures) (ap length (c .before .before .before .zeros .ensures) ∙ sym (c .before .before .before .before .before .pre))
+returns c =
+    whole (c .before .copy .ensures) (ap length (c .before .before .before .zeros .ensures) ∙ sym
+    (c .before .before .before .before .before .pre))
 
 pub array-of-spec : {M : Type 1} → statement M
 array-of-spec = tie.close (tie.spec (λ c κs. search needs) (λ c. search needs) (λ c κs. search needs) returns)

@@ -24,11 +24,13 @@ add-push-all : tie.Need-add-push-all
 add-push-all c = let z = sizes (c .before .before .before .before) in omega (arith, z .within)
 
 part-push-all-end : tie.Need-part-push-all-end
-part-push-all-end c = let z = sizes (c .before .before .before .before) in omega (arith, z .within, c .before .before .before .before .pre .0)
+part-push-all-end c =
+    let z = sizes (c .before .before .before .before) in omega (arith, z .within, c .before .before .before .before .pre .0)
 
 cast-words : tie.Need-cast-words
 cast-words c =
-    let s = c .before .before .before .before .before .before .before .before in omega (arith, pushed-fits (s .args .words .now) (s .args .counts .now) (s .pre .0) (sizes s) _ _ (c .before .before .push-all .ensures))
+    let s = c .before .before .before .before .before .before .before .before in omega
+    (arith, pushed-fits (s .args .words .now) (s .args .counts .now) (s .pre .0) (sizes s) _ _ (c .before .before .push-all .ensures))
 
 returns : tie.Need-returns
 returns c =

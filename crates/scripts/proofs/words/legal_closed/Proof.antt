@@ -7,7 +7,9 @@ use Rattle.scripts.proofs.words.legal_closed.Tie as tie
 use Rattle.bounds.proofs.within_limit.Reads as within-limit-reads
 
 returns : tie.Need-returns
-returns c = none-asked (c .before .before .before .args .words .now) (c .before .before .before .pre .0) (c .before .before .before .pre .1) (lt-ltb 0 _ (c .if1 .taken))
+returns c =
+    none-asked (c .before .before .before .args .words .now) (c .before .before .before .pre .0) (c .before .before .before .pre .1)
+    (lt-ltb 0 _ (c .if1 .taken))
 
 cast-horizon : tie.Need-cast-horizon
 cast-horizon c = omega (arith, c .shared-slice-known3 .given 0)
@@ -22,13 +24,15 @@ add-within-limit-2 : tie.Need-add-within-limit-2
 add-within-limit-2 c = omega (arith, c .before .before .before .before .before .before .pre .1)
 
 part-within-limit-end-2 : tie.Need-part-within-limit-end-2
-part-within-limit-end-2 c = omega (arith, c .before .before .before .before .before .before .pre .0, c .before .before .before .before .before .before .pre .1)
+part-within-limit-end-2 c =
+    omega (arith, c .before .before .before .before .before .before .pre .0, c .before .before .before .before .before .before .pre .1)
 
 returns-2 : tie.Need-returns-2
 returns-2 c =
     let s = c .before .before .before .before .before .before .before .before in
     closed-told (s .args .words .now) (s .pre .0) (s .pre .1) (c .before .before .within-limit .result) (c .within-limit2 .result)
-    (le-ltb 0 _ (c .before .before .before .before .before .if1 .left)) (c .before .before .within-limit .ensures) (c .within-limit2 .ensures)
+    (le-ltb 0 _ (c .before .before .before .before .before .if1 .left)) (c .before .before .within-limit .ensures)
+    (c .within-limit2 .ensures)
 
 pub legal-closed-spec : {M : Type 1} → statement M
 legal-closed-spec =

@@ -23,7 +23,11 @@ returns-3 : tie.Need-returns-3
 returns-3 c =
     let ws = c .before .before .before .before .before .args .words .now in
     let l = told-yes _ (c .before .before .legal-history .result) (c .before .if2 .left) (c .before .before .legal-history .ensures) in
-    tells-same (c .legal-closed .result) (λ p. (c .before .before .before .if1 .left, legal-parts ws .0 (l, p)), λ q. legal-parts ws .1 (q .1) .1)
+    tells-same (c .legal-closed .result) (
+      λ p. (c .before .before .before .if1 .left, legal-parts ws .0 (l, p)),
+      λ q. legal-parts ws .1
+          (q .1) .1,
+    )
     (c .legal-closed .ensures)
 
 pub legal-monitor-spec : {M : Type 1} → statement M

@@ -16,7 +16,8 @@ cast-t7 c = omega (arith, c .shared-slice-known4 .given 514)
 returns : tie.Need-returns
 returns c =
     let ws = c .before .before .before .before .before .before .before .before .before .before .args .words .now in
-    λ i. historyOf (word 0 ws) (c .before .before .before .before .before .before .before .array-of .ensures i) (c .before .before .before .before .before .array-of2 .ensures i) (markFrom (word 1 ws)) (word 514 ws)
+    λ i. historyOf (word 0 ws) (c .before .before .before .before .before .before .before .array-of .ensures i)
+    (c .before .before .before .before .before .array-of2 .ensures i) (markFrom (word 1 ws)) (word 514 ws)
     (c .before .before .before .array-of3 .ensures i)
 
 pub read-history-spec : {M : Type 1} → statement M

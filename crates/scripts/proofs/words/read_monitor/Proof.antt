@@ -11,7 +11,8 @@ use Rattle.scripts.proofs.words.read_history.Reads as read-history-read
 returns : tie.Need-returns
 returns c =
     let ws = c .before .before .before .before .before .before .before .args .words .now in
-    λ i. monitorOf (c .before .before .before .before .before .read-history .ensures i) (c .before .before .before .array-of .ensures i) (c .before .array-of2 .ensures i) (markFrom (word 1_283 ws))
+    λ i. monitorOf (c .before .before .before .before .before .read-history .ensures i) (c .before .before .before .array-of .ensures i)
+    (c .before .array-of2 .ensures i) (markFrom (word 1_283 ws))
 
 pub read-monitor-spec : {M : Type 1} → statement M
 read-monitor-spec =

@@ -12,19 +12,27 @@ written c =
     let s = c .before .before .before .before .before .before .before .before .before .before .before in
     let pu = c .before .before .before .before .before .before .write-figures .ensures in
     let pl = c .before .before .write-figures2 .ensures in
-    closed-written (s .args .words .now) (c .before .before .before .before .before .before .write-figures .last .0) (c .before .before .write-figures2 .last .0) (s .pre .0)
-    (ap length pu ∙ padded-length (s .args .closed-upper .now) (s .pre .1 .0)) (ap length pl ∙ padded-length (s .args .closed-lower .now) (s .pre .1 .1))
+    closed-written (s .args .words .now) (c .before .before .before .before .before .before .write-figures .last .0)
+    (c .before .before .write-figures2 .last .0) (s .pre .0)
+    (ap length pu ∙ padded-length (s .args .closed-upper .now) (s .pre .1 .0))
+    (ap length pl ∙ padded-length (s .args .closed-lower .now) (s .pre .1 .1))
     ∙ (λ i. pu i ++ (pl i ++ (0 ∷ [])))
 
 slice-aggregate-write-figures : tie.Need-slice-aggregate-write-figures
-slice-aggregate-write-figures c = sym (length-take-le 256 (c .before .before .before .before .args .words .now) (omega (arith, c .before .before .before .before .pre .0)))
+slice-aggregate-write-figures c =
+    sym (length-take-le 256 (c .before .before .before .before .args .words .now)
+    (omega (arith, c .before .before .before .before .pre .0)))
 
 write-figures-requires : tie.Need-write-figures-requires
-write-figures-requires c κs = let s = c .before .before .before .before in (length-take-le 256 (s .args .words .now) (omega (arith, s .pre .0)), s .pre .1 .0)
+write-figures-requires c κs =
+    let s = c .before .before .before .before in (length-take-le 256 (s .args .words .now) (omega (arith, s .pre .0)), s .pre .1 .0)
 
 same-length : tie.Need-same-length
 same-length c = ap length (written c)
-    ∙ closed-length (c .before .before .before .before .before .before .before .before .before .before .before .args .closed-upper .now) (c .before .before .before .before .before .before .before .before .before .before .before .args .closed-lower .now) (c .before .before .before .before .before .before .before .before .before .before .before .pre .1 .0) (c .before .before .before .before .before .before .before .before .before .before .before .pre .1 .1)
+    ∙ closed-length (c .before .before .before .before .before .before .before .before .before .before .before .args .closed-upper .now)
+    (c .before .before .before .before .before .before .before .before .before .before .before .args .closed-lower .now)
+    (c .before .before .before .before .before .before .before .before .before .before .before .pre .1 .0)
+    (c .before .before .before .before .before .before .before .before .before .before .before .pre .1 .1)
     ∙ sym (c .before .before .before .before .before .before .before .before .before .before .before .pre .0)
 
 returns : tie.Need-returns

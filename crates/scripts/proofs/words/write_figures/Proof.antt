@@ -10,7 +10,8 @@ use Rattle.scripts.proofs.words.fill.Reads as fill-reads
 returns : tie.Need-returns
 returns c =
     let s = c .before .before .before .before .before .before .before .before .before .before in
-    figures-written (s .args .figures .now) (s .args .places .now) _ _ (s .pre .0) (s .pre .1) (c .before .before .before .before .before .before .copy .ensures .entries) (c .before .before .fill .ensures)
+    figures-written (s .args .figures .now) (s .args .places .now) _ _ (s .pre .0) (s .pre .1)
+    (c .before .before .before .before .before .before .copy .ensures .entries) (c .before .before .fill .ensures)
 
 pub write-figures-spec : {M : Type 1} → statement M
 write-figures-spec =

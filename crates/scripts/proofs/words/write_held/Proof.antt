@@ -39,7 +39,10 @@ slice-aggregate-copy : tie.Need-slice-aggregate-copy
 slice-aggregate-copy c = sym (length-take-le _ _ (room (c .before .before .before)))
 
 same-length : tie.Need-same-length
-same-length c = ap length (written c) ∙ held-length (c .before .before .before .before .before .before .before .args .words .now) (viewOf (c .before .before .before .before .before .before .before .args .history) .held) (c .before .before .before .before .before .before .before .pre .0) (few (c .before .before .before .before .before .before .before))
+same-length c =
+    ap length (written c) ∙ held-length (c .before .before .before .before .before .before .before .args .words .now)
+    (viewOf (c .before .before .before .before .before .before .before .args .history) .held)
+    (c .before .before .before .before .before .before .before .pre .0) (few (c .before .before .before .before .before .before .before))
 
 returns : tie.Need-returns
 returns c = written c

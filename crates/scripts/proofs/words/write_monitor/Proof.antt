@@ -23,22 +23,29 @@ room c xs e =
     let s = c .before .before .before .before in
     omega (arith, shown-few (length (s .args .upper .now)) (s .args .unlimited) _ (c .figures-shown .ensures), s .pre .1 .0)
 
-upper-room : (c : tie.After-figures-shown) → c .figures-shown .result ≤ length (c .before .before .before .before .args .opened .«closed_upper»)
+upper-room : (c : tie.After-figures-shown) → c .figures-shown .result ≤ length
+    (c .before .before .before .before .args .opened .«closed_upper»)
 upper-room c = let s = c .before .before .before .before in room c (s .args .opened .«closed_upper») (uppers s)
 
-lower-room : (c : tie.After-figures-shown) → c .figures-shown .result ≤ length (c .before .before .before .before .args .opened .«closed_lower»)
+lower-room : (c : tie.After-figures-shown) → c .figures-shown .result ≤ length
+    (c .before .before .before .before .args .opened .«closed_lower»)
 lower-room c = let s = c .before .before .before .before in room c (s .args .opened .«closed_lower») (lowers s)
 
 front-there : (c : tie.After-write-pair) → length (c .write-pair .last .0) ≡ 771
 front-there c =
     let s = c .before .before .before .before .before .before .before .before in
-    ap length (c .write-pair .ensures) ∙ opened-length (s .args .upper .now) (s .args .lower .now) (s .args .unlimited) (s .pre .1 .0) (s .pre .1 .1)
+    ap length (c .write-pair .ensures) ∙ opened-length (s .args .upper .now) (s .args .lower .now) (s .args .unlimited) (s .pre .1 .0)
+    (s .pre .1 .1)
 
 slice-aggregate-write-pair : tie.Need-slice-aggregate-write-pair
-slice-aggregate-write-pair c = sym (length-take-le 771 (c .before .before .before .before .before .before .before .args .words .now) (omega (arith, c .before .before .before .before .before .before .before .pre .0)))
+slice-aggregate-write-pair c =
+    sym (length-take-le 771 (c .before .before .before .before .before .before .before .args .words .now)
+    (omega (arith, c .before .before .before .before .before .before .before .pre .0)))
 
 write-pair-requires : tie.Need-write-pair-requires
-write-pair-requires c κs = let s = c .before .before .before .before .before .before .before in (length-take-le 771 (s .args .words .now) (omega (arith, s .pre .0)), s .pre .1)
+write-pair-requires c κs =
+    let s = c .before .before .before .before .before .before .before in
+    (length-take-le 771 (s .args .words .now) (omega (arith, s .pre .0)), s .pre .1)
 
 array-share-prefix-closed-upper : tie.Need-array-share-prefix-closed-upper
 array-share-prefix-closed-upper c = upper-room (c .before .before .before .before .before .before .before)
@@ -50,7 +57,8 @@ array-share-prefix-closed-lower : tie.Need-array-share-prefix-closed-lower
 array-share-prefix-closed-lower c = lower-room (c .before .before .before .before .before .before .before .before)
 
 slice-aggregate-write-closed-2 : tie.Need-slice-aggregate-write-closed-2
-slice-aggregate-write-closed-2 c = sym (length-take-le _ _ (lower-room (c .before .before .before .before .before .before .before .before .before)))
+slice-aggregate-write-closed-2 c =
+    sym (length-take-le _ _ (lower-room (c .before .before .before .before .before .before .before .before .before)))
 
 write-closed-requires : tie.Need-write-closed-requires
 write-closed-requires c κs =
@@ -66,10 +74,12 @@ write-closed-requires c κs =
 
 returns : tie.Need-returns
 returns c =
-    let s = c .before .before .before .before .before .before .before .before .before .before .before .before .before .before .before .before in
+    let s = c .before .before .before .before .before .before .before .before .before .before .before .before .before .before .before
+    .before in
     let f = c .before .before .before .before .before .before .before .before .before .before .before .before in
     let told = c .before .before .write-closed .ensures in
-    monitor-written (s .args .words .now) (c .before .before .before .before .before .before .before .before .write-pair .last .0) (c .before .before .write-closed .last .0) (s .pre .0) (front-there (c .before .before .before .before .before .before .before .before))
+    monitor-written (s .args .words .now) (c .before .before .before .before .before .before .before .before .write-pair .last .0)
+    (c .before .before .write-closed .last .0) (s .pre .0) (front-there (c .before .before .before .before .before .before .before .before))
     ∙ (λ i. c .before .before .before .before .before .before .before .before .write-pair .ensures i ++ (told
     ∙ (λ j. padded (sym (entries-take _ (s .args .opened .«closed_upper») (upper-room f)) j)
     ++ (padded (sym (entries-take _ (s .args .opened .«closed_lower») (lower-room f)) j) ++ (0 ∷ [])))
