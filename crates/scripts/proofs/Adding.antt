@@ -6,7 +6,7 @@ use Rattle.laws.specs.Ranges.{table}
 use Rattle.laws.proofs.Table.{Filled, length-table, getD-table}
 use Rattle.curves.specs.Ticks.{last}
 use Rattle.curves.proofs.NextTick.{last-none, last-more}
-use Rattle.scripts.specs.Steps.{Turned, sumLimit, KeptSums}
+use Rattle.scripts.specs.Steps.{sumLimit, KeptSums}
 
 -- ---- figures turned round
 -- What a loop has stored.
@@ -23,14 +23,6 @@ fromLast figures d = getD figures (length figures - d) 0
 -- The same by the place.
 pub from-last : (figures : List ℕ) (i : ℕ) → getD figures (length figures - 1 - i) 0 ≡ fromLast figures (i + 1)
 from-last figures i = let e : length figures - 1 - i ≡ length figures - (i + 1) = omega arith in ap (λ k. getD figures k 0) e
-
-pub turned-all : (figures found turned : List ℕ) (n : ℕ) → length found ≡ length figures → n ≡ length figures
-    → Filled (fromLast figures) found turned n → Turned figures turned
-turned-all figures found turned n e s t =
-    record {
-      whole = t .whole ∙ e;
-      entry = λ i l. filled-entry t i (omega arith) ∙ ap (fromLast figures) (sym (add-one i)) ∙ sym (from-last figures i);
-    }
 
 -- ---- sums
 -- The sum of no ticks is 0.

@@ -28,11 +28,6 @@ NamesWindow AlreadyFailed = Unit {0}
 NamesWindow BadState = Unit {0}
 
 -- ---- sums of the newest ticks, and figures, those of longer windows first
--- The figures turned round.
-pub record Turned (figures turned : List ℕ) : Type 0 where
-  pub whole : length turned ≡ length figures
-  pub entry : (i : ℕ) → i < length figures → getD turned i 0 ≡ getD figures (length figures - 1 - i) 0
-
 -- No larger sum is kept.
 abbrev pub sumLimit : ℕ
 sumLimit = 536_870_912

@@ -5,7 +5,7 @@ ghost use mathlib.Core.Path.{_≡_};
 ghost use mathlib.Core.Bool.{true};
 ghost use Prim.Native.Nat.{_-_, _<_};
 ghost use lib.ListN.{length, getD, replicate};
-ghost use Rattle.scripts.specs.Steps.{Turned, KeptSums};
+ghost use Rattle.scripts.specs.Steps.{KeptSums};
 
 // No larger sum is kept: 2^29, so that one of these and a count of as much are below 2^31, and can be compared as signed numbers.
 pub(crate) const SUM_LIMIT: u32 = 536_870_912;
@@ -18,19 +18,6 @@ pub(crate) fn no_sums() -> [u32; MOST_SUMS]
     ensures { λ r. ⌜ r ≡ replicate 257 0 ⌝ }
 {
     [0u32; MOST_SUMS]
-}
-
-// The figures turned round: that of the longest window first.
-pub(crate) fn turn(figures: &[u32], turned: &mut [u32])
-    requires { ⌜ length (now turned) ≡ length (now figures) ⌝ }
-    ensures { λ _. ⌜ Turned (now (figures .entry)) (now (turned .exit)) ⌝ }
-{
-    let h = figures.len();
-    let mut i = 0;
-    while i < h {
-        turned[i] = figures[h - 1 - i];
-        i += 1;
-    }
 }
 
 // Adds up the newest d ticks for each d; tells whether no sum is above the limit. Where one is, what is left is no matter.
