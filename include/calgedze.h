@@ -3,18 +3,22 @@
  * closed curves, judge a stream of counts, generate one. Link libexports.a, which `rt staticlib exports` writes.
  *
  * Every call ends, whatever the lengths and contents of its lists. A list is a pointer and a number of entries, fewer than 2^63, so that
- * a number that counts entries is never negative, as a refusal is; the pointer is never null, not even for no entries, and a list that a
- * call writes overlaps no other list of the call. A pair is two lists of figures, the upper curve (ceilings) and the lower (leasts), entry
- * 0 of each being that of the window of one tick; and a mark.
+ * a number that counts entries is never negative, as a refusal is; the pointer is never null, not even for no entries, and aligned for its
+ * entries, which are in the machine's byte order; and a list that a call writes overlaps no other list of the call. A pair is two lists
+ * of figures, the upper curve (ceilings) and the lower (leasts), entry 0 of each being that of the window of one tick; and a mark.
  *
  * The mark, `unlimited`, says that the pair has no ceilings: any number but 0 sets it. The upper list must still be a list of as many
  * entries as the lower one; what they hold has no effect, and no call writes ceilings of such a pair.
  *
  * A call is refused with a number from 1 to 13 or with 15 (calgedze_refusal_text has the words), and then every list stays as it was.
- * Where several numbers apply, the call is refused with the one that stands first in its own list below.
+ * Where several numbers apply, the call is refused with the one that stands first in its own list below. How the number comes back:
+ *   calgedze_close, calgedze_read                       in the upper half of the answer: CALGEDZE_REFUSAL(answer) is not 0
+ *   calgedze_monitor_open, calgedze_generator_open      as it is: what comes back is not 0
+ *   calgedze_render and the runs and looks on a state   with a minus sign: what comes back is negative
+ *   calgedze_report                                     in the text that it writes
  *
  * Threads: the library has no state of its own. Calls on different lists may run at the same time; two calls that share a list, one of
- * which writes it, must not. Stack: a call takes at most 64 KiB.
+ * which writes it, must not. Stack: a call takes at most 64 KiB, measured on x86-64 Linux (tests/stack.c; 33,648 bytes was the most).
  */
 #ifndef CALGEDZE_H
 #define CALGEDZE_H
@@ -102,9 +106,9 @@ int64_t calgedze_render(const uint32_t *upper, size_t upper_length, const uint32
  *   words 1027..1282  closed_lower  its leasts likewise
  *   word 1283         failed        a mark: some tick was rejected
  *
- * A mark is set where its word is not 0. Any words are legal input: a call refuses with 12 a list that is not as long as its struct, and
- * words that are no state. Those are: a horizon that is not 1 to 256; as many held ticks as the horizon or more; a figure above 16,776,960
- * among the first H of a list that has an effect. 12 comes before all else that a run or a look could answer, also for lists without an
+ * A mark is set where its word is not 0. Any words are legal input: a call refuses with 12 a list that is not as long as its struct (an
+ * opening after its other questions), and words that are no state. Those are: a horizon that is not 1 to 256; as many held ticks as the
+ * horizon or more; a figure above 16,776,960 among the first H of a list that has an effect. 12 comes before all else that a run or a look could answer, also for lists without an
  * entry, and then nothing changes.
  */
 typedef struct calgedze_generator {
@@ -140,10 +144,11 @@ uint32_t calgedze_generator_open(const uint32_t *upper, size_t upper_length, con
                                  uint32_t unlimited, uint32_t *state, size_t state_length);
 
 /*
- * What a monitor answers to a count. The two that name a window are this plus the window. At CALGEDZE_LOST every window that ends there
- * keeps its figures as given, and yet no unbounded conforming stream begins like this: the stream is lost, not a message. On the curves of
- * a closure that never happens. On a pair without ceilings neither that nor CALGEDZE_TOO_MANY does: every count passes that is not too
- * few, 4,294,967,295 as well. After the first tick that is not CALGEDZE_PASSED every later one is CALGEDZE_ALREADY_FAILED.
+ * What a monitor answers to a count. Two of these name a window, which is added: 1003 is too many in three ticks. At CALGEDZE_LOST every
+ * window that ends there keeps its figures as given, and some window not the closed figures in the state. In a state that was opened, and
+ * in what its runs leave, that means that no unbounded conforming stream begins like this: the stream is lost, not a message; and on the
+ * curves of a closure it never happens. On a pair without ceilings neither that nor CALGEDZE_TOO_MANY does: every count passes that is not
+ * too few, 4,294,967,295 as well. After the first tick that is not CALGEDZE_PASSED every later one is CALGEDZE_ALREADY_FAILED.
  */
 #define CALGEDZE_PASSED 0u
 #define CALGEDZE_TOO_MANY 1000u
@@ -160,8 +165,9 @@ uint32_t calgedze_generator_open(const uint32_t *upper, size_t upper_length, con
  *
  * Entry i of `verdicts`, for i below n, becomes the answer to the tick. Entry i of `margins`, for i below n and as far as there is room,
  * becomes its margin: how near the tick comes to the figures as given, the smallest over the windows that end there of ceiling minus sum
- * and sum minus least (without ceilings of the latter), negative exactly with CALGEDZE_TOO_MANY and CALGEDZE_TOO_FEW, and 0 with
- * CALGEDZE_ALREADY_FAILED. No list of margins is asked for: it may be empty, or shorter than n. All other entries stay.
+ * and sum minus least (without ceilings, of sum minus least alone), negative exactly with CALGEDZE_TOO_MANY and CALGEDZE_TOO_FEW, and 0
+ * with CALGEDZE_ALREADY_FAILED. `margins` may be empty, or shorter than n; all other entries stay. A run with a place for a margin takes
+ * as long as its ticks one by one, many times as long as a run without: give it no entries where you do not want them.
  *
  * Of the state these words change, and all others stay: `held`, the first `held` words of `ticks`, and `failed`, which becomes 1 once a
  * tick is rejected, and stays as it was where it was set before. A tick that is rejected is not held. So days in pieces are one stream:
@@ -176,7 +182,7 @@ int64_t calgedze_monitor_run(uint32_t *state, size_t state_length, const uint32_
  *
  * Entry i of `counts`, for i below n, becomes the count that is sent: lo plus the remainder of the choice by hi - lo + 1, where lo and hi
  * are the smallest and the largest count that keep every window; without ceilings hi is 16,776,960. It becomes CALGEDZE_REFUSED + 13 where
- * no count keeps every window; the state then stays as it is for that tick, and the next choice is tried. A state that was opened, and
+ * no count keeps every window; the state then stays as it is, so that every later entry is that as well. A state that was opened, and
  * every one that its runs leave, always has a count to send: 13 comes up only in states that were built by hand. All other entries stay.
  *
  * Of the state `held` and the first `held` words of `ticks` change, and all others stay. Pieces are one stream here too.
@@ -185,8 +191,8 @@ int64_t calgedze_generator_run(uint32_t *state, size_t state_length, const uint3
                                size_t counts_length);
 
 /*
- * The smallest and the largest count that the next tick could send, taken apart by calgedze_lo and calgedze_hi; or -12; or -13 where no
- * count keeps every window. The state stays as it is.
+ * The smallest count that the next tick could send, in bits 0 to 31, and the largest, in bits 32 to 63 (calgedze_lo, calgedze_hi); or
+ * -12; or -13 where no count keeps every window. The state stays as it is.
  */
 int64_t calgedze_generator_look(const uint32_t *state, size_t state_length);
 
@@ -219,7 +225,10 @@ static inline uint32_t calgedze_hi(int64_t look)
     return (uint32_t)((uint64_t)look >> 32);
 }
 
-/* The number of a refusal in words. One that a call gives back negative may be handed on with its sign or without. */
+/*
+ * The number of a refusal in words: CALGEDZE_REFUSAL(answer), what an opening gives back, or a negative answer with its sign or without.
+ * Ask only where the call was refused: a number of ticks or of rounds is no refusal.
+ */
 static inline const char *calgedze_refusal_text(int64_t number)
 {
     switch (number < 0 ? 0 - (uint64_t)number : (uint64_t)number) {

@@ -134,6 +134,10 @@ static int generate(const pair *curves, const uint32_t *choices, uint32_t *count
     }
     calgedze_generator_run(CALGEDZE_STATE(&generator), choices, length, counts, length);
     look = calgedze_generator_look(CALGEDZE_STATE(&generator));
+    if (look < 0) {
+        print_refusal((uint32_t)-look);
+        return 0;
+    }
     printf("next      %lu to %lu\n", (unsigned long)calgedze_lo(look), (unsigned long)calgedze_hi(look));
     return 1;
 }

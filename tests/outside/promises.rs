@@ -44,7 +44,7 @@ fn check_pasts(pair: &Pair, closed: &Pair, extensions: &Extensions) -> Result<()
         let differing = (0..=extensions.top + 1).find(|&count| passes(count) != extensions.goes_on(&past, count));
         if let Some(count) = differing {
             return Err(format!(
-                "after {past:?} and with {count}: whether the closure\n{}\npasses it differs from whether a stream goes on so that keeps\n{}",
+                "after {past:?} and with {count}: whether the closure\n{}\npasses it differs from whether a stream goes on that keeps\n{}",
                 closed.shown(),
                 pair.shown()
             ));

@@ -62,6 +62,7 @@ module _ (ws xs ys vs us : List ℕ) (ms ns : List ℤ) (e : length vs ≡ lengt
       let both : whole ≡ judged (minus 12) ws (vs ++ us) (ms ++ ns) =
       judged-bad ws (take (length (vs ++ us)) (xs ++ ys)) (vs ++ us) (ms ++ ns) n in
       record {
+        answer = inr (ap (λ (a : Judged). a .answer) one, ap (λ (a : Judged). a .answer) two, ap (λ (a : Judged). a .answer) both);
         state = ap (λ (a : Judged). a .state) both ∙ sym (ap (λ (a : Judged). a .state) two);
         verdicts = ap (λ (a : Judged). a .verdicts) both ∙ sym (λ i. one i .verdicts ++ two i .verdicts);
         margins = ap (λ (a : Judged). a .margins) both ∙ sym (λ i. one i .margins ++ two i .margins);
@@ -116,6 +117,8 @@ module _ (ws xs ys vs us : List ℕ) (ms ns : List ℤ) (e : length vs ≡ lengt
     run : JudgedAlike first second whole
     run =
         record {
+          answer =
+              inl (ap (λ (a : Judged). a .answer) both ∙ length-append xs ys ∙ sym (λ i. one i .answer + two i .answer));
           state = ap (λ (a : Judged). a .state) both ∙ sym (ap (λ (a : Judged). a .state) two);
           verdicts =
               ap (λ (a : Judged). a .verdicts) both
@@ -150,6 +153,7 @@ module _ (ws xs ys cs ds : List ℕ) (e : length cs ≡ length xs) (f : length d
       ap (λ (a : Sent). sentChoices (a .state) ys ds) one ∙ sent-bad ws (take (length ds) ys) ds n in
       let both : sent-whole ≡ sent (minus 12) ws (cs ++ ds) = sent-bad ws (take (length (cs ++ ds)) (xs ++ ys)) (cs ++ ds) n in
       record {
+        answer = inr (ap (λ (a : Sent). a .answer) one, ap (λ (a : Sent). a .answer) two, ap (λ (a : Sent). a .answer) both);
         state = ap (λ (a : Sent). a .state) both ∙ sym (ap (λ (a : Sent). a .state) two);
         counts = ap (λ (a : Sent). a .counts) both ∙ sym (λ i. one i .counts ++ two i .counts);
       }
@@ -157,6 +161,7 @@ module _ (ws xs ys cs ds : List ℕ) (e : length cs ≡ length xs) (f : length d
   all-sent : LegalGeneratorWords ws → SentAlike sent-first sent-second sent-whole
   all-sent l =
       record {
+        answer = inl (ap (λ (a : Sent). a .answer) both ∙ length-append xs ys ∙ sym (λ i. one i .answer + two i .answer));
         state = ap (λ (a : Sent). a .state) both ∙ sym (ap (λ (a : Sent). a .state) two);
         counts =
             ap (λ (a : Sent). a .counts) both

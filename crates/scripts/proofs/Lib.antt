@@ -9,6 +9,7 @@ mod Given
 mod Written
 mod Opened
 pub mod InPieces
+pub mod Fresh
 mod Adding
 mod Growing
 mod Keeping
