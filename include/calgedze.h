@@ -108,8 +108,8 @@ int64_t calgedze_render(const uint32_t *upper, size_t upper_length, const uint32
  *
  * A mark is set where its word is not 0. Any words are legal input: a call refuses with 12 a list that is not as long as its struct (an
  * opening after its other questions), and words that are no state. Those are: a horizon that is not 1 to 256; as many held ticks as the
- * horizon or more; a figure above 16,776,960 among the first H of a list that has an effect. 12 comes before all else that a run or a look could answer, also for lists without an
- * entry, and then nothing changes.
+ * horizon or more; a figure above 16,776,960 among the first H of a list that has an effect. 12 comes before all else that a run or a
+ * look could answer, also for lists without an entry, and then nothing changes.
  */
 typedef struct calgedze_generator {
     uint32_t horizon, unlimited, upper[256], lower[256], held, ticks[256];

@@ -72,7 +72,7 @@ OpenedNeverRefused =
     (p : AnyPair) (o : OpenedGenerator) → GeneratorOpened p o → WasOpened o → (cs : List Call) → Calls (o .state) cs
     → Each NotRefused cs × Extendable (curvesOf p) (countsSent cs)
 
--- The same of a list of choices, told of views: every tick sends a count, of at most 16,776,960. So no entry of a list of choices is a refusal.
+-- The same of a list of choices, told of views: every tick sends a count, of at most 16,776,960. So none of its answers is a refusal.
 abbrev pub SendsAtEveryTick : Type 0
 SendsAtEveryTick =
     (p : AnyPair) → GeneratorOpens p → (choices : List ℕ)
