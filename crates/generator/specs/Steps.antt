@@ -69,6 +69,10 @@ Limited v r = (x : ℕ) → (Keeps (curvesOf (v .pair)) (then (v .held) x) × (x
 abbrev pub sumLimit : ℕ
 sumLimit = 1099511627776
 
+-- Limits that have it added, without it.
+abbrev pub cutOff : ℕ → ℕ → Limits
+cutOff lo end = record { lo = lo - sumLimit; end = end - sumLimit }
+
 -- What a window with the ceiling u leaves of an end, both with the limit of sums added; r is what the sum of its ticks before the next one
 -- leaves of that limit. By the pair's mark.
 abbrev pub loweredTo : Bool → ℕ → ℕ → ℕ → ℕ

@@ -15,7 +15,7 @@ ghost use Rattle.generator.specs.Opening.{generatorOpening};
 ghost use Rattle.generator.specs.Answers.{generatorOpeningReply, rangeReply, sendingReply};
 ghost use Rattle.generator.specs.Promises.{GeneratorOpened, GeneratorTicked, GeneratorRanged};
 ghost use Rattle.generator.specs.Steps.{generatorOpeningFor, historyFor, Limited, loweredTo, Small, Shows, ChoosesWhere};
-ghost use Rattle.generator.specs.Steps.{HoldsWhere, Held, sumLimit};
+ghost use Rattle.generator.specs.Steps.{HoldsWhere, Held, sumLimit, cutOff};
 
 // The longest horizon.
 const MAX_HORIZON: usize = 256;
@@ -279,9 +279,8 @@ fn find_range(
     range_of(limits)
 }
 
-// Window after window. `rest` is what the sum of the d ticks before the next one leaves of the limit of sums. With it added a figure stands
-// for what is left of it without that sum, so that only the end cuts off at 0: a ceiling that the ticks before have passed leaves room for
-// no count, and a least that they have asks for none.
+// Two windows a turn: compared with each other first, they make the turns wait for one comparison each. `rest` is what the sum of the d
+// ticks before the next one leaves of the limit of sums; with it added a figure stands for what that sum leaves of it.
 fn limit(upper: &[u32], lower: &[u32], unlimited: bool, ticks: &[u32]) -> Limits
     requires { ⌜ Slices (now upper) (now lower) (now ticks) ⌝ }
     ensures { λ r. ⌜ Limited (viewWith (now (upper .entry)) (now (lower .entry)) unlimited (now (ticks .entry))) r ⌝ }
@@ -291,12 +290,27 @@ fn limit(upper: &[u32], lower: &[u32], unlimited: bool, ticks: &[u32]) -> Limits
     let mut lo = lower[0] as u64 + rest;
     let mut end = lowered(COUNT_END + rest, upper[0], unlimited, rest);
     let mut d = 0;
-    while d < held {
-        rest -= ticks[held - 1 - d] as u64;
-        d += 1;
-        lo = larger(lo, lower[d] as u64 + rest);
-        end = lowered(end, upper[d], unlimited, rest);
+    while d + 1 < held {
+        let e = d + 1;
+        let first = rest - ticks[held - 1 - d] as u64;
+        rest = first - ticks[held - 1 - e] as u64;
+        lo = largest(lo, lower[e] as u64 + first, lower[e + 1] as u64 + rest);
+        end = lowered_twice(end, upper[e], first, upper[e + 1], rest, unlimited);
+        d = e + 1;
     }
+    if held <= d {
+        return cut_off(lo, end);
+    }
+    let left = rest - ticks[held - 1 - d] as u64;
+    let last = larger(lo, lower[d + 1] as u64 + left);
+    cut_off(last, lowered(end, upper[d + 1], unlimited, left))
+}
+
+// The limits without that of sums. Only here they are cut off at 0: a ceiling that the ticks before have passed leaves room for no count,
+// and a least that they have asks for none.
+fn cut_off(lo: u64, end: u64) -> Limits
+    ensures { λ r. ⌜ r ≡ cutOff lo end ⌝ }
+{
     Limits {
         lo: difference(lo, SUM_LIMIT),
         end: difference(end, SUM_LIMIT),
@@ -314,6 +328,26 @@ fn lowered(end: u64, ceiling: u32, unlimited: bool, rest: u64) -> u64
     smaller(end, ceiling as u64 + 1 + rest)
 }
 
+// And that two windows leave.
+fn lowered_twice(end: u64, one: u32, first: u64, other: u32, rest: u64, unlimited: bool) -> u64
+    requires { ⌜ (first ≤ sumLimit) × (rest ≤ sumLimit) ⌝ }
+    ensures { λ r. ⌜ r ≡ loweredTo unlimited (loweredTo unlimited end one first) other rest ⌝ }
+{
+    if unlimited {
+        return end;
+    }
+    smaller(
+        end,
+        smaller(one as u64 + 1 + first, other as u64 + 1 + rest),
+    )
+}
+
+fn largest(a: u64, b: u64, c: u64) -> u64
+    ensures { λ r. ⌜ r ≡ max (max a b) c ⌝ }
+{
+    larger(a, larger(b, c))
+}
+
 fn larger(a: u64, b: u64) -> u64
     ensures { λ r. ⌜ r ≡ max a b ⌝ }
 {
@@ -326,7 +360,6 @@ fn smaller(a: u64, b: u64) -> u64
     if a < b { a } else { b }
 }
 
-// Cut off at 0.
 fn difference(a: u64, b: u64) -> u64
     ensures { λ r. ⌜ r ≡ a - b ⌝ }
 {

@@ -1,6 +1,6 @@
 -- `generator::limit` meets its contract: before a turn lo and end, without the limit of sums, stand for the windows of up to d + 1 ticks.
 -- Assumes nothing.
-use Rattle.laws.proofs.Base.{ℕ, _+_, _-_, _*_, _≤_, refl, arith, needs, length, getD}
+use Rattle.laws.proofs.Base.{ℕ, _+_, _-_, _*_, _≤_, refl, List, arith, needs, length, getD}
 use Rattle.curves.specs.Streams.{countLimit}
 use Rattle.generator.specs.Steps.{sumLimit}
 use Rattle.generator.proofs.Ranging.{Narrowed, rested-once, rested-more, narrowed-whole}
@@ -20,44 +20,99 @@ loop-holds c =
     let s = c .before .before .before .before .before .before in
     (omega arith, omega arith, rested-once _ _ (s .args .unlimited) _ (s .pre) _ _ refl (c .lowered .ensures))
 
--- The turn's beginning and the function's, seen from where its tick is known, and the bound on that tick.
+-- ---- a turn
+-- Its beginning and the function's, seen from where its first tick is known.
 abbrev head : tie.After-shared-slice-known6 Inv-loop μ-loop → tie.At-loop Inv-loop μ-loop
 head a = a .before .before
 
 abbrev start : tie.After-shared-slice-known6 Inv-loop μ-loop → tie.Start Inv-loop μ-loop
 start a = head a .before .before .before .before .before .before .before
 
-abbrev taken : tie.After-shared-slice-known6 Inv-loop μ-loop → ℕ
-taken a = getD (start a .args .ticks .now) (length (start a .args .ticks .now) - 1 - head a .loop .d) 0
+abbrev counts : tie.After-shared-slice-known6 Inv-loop μ-loop → List ℕ
+counts a = start a .args .ticks .now
 
-taken-small : (a : tie.After-shared-slice-known6 Inv-loop μ-loop) → taken a ≤ countLimit
-taken-small a = omega (arith, a .shared-slice-known6 .given (length (start a .args .ticks .now) - 1 - head a .loop .d))
+abbrev one : tie.After-shared-slice-known6 Inv-loop μ-loop → ℕ
+one a = getD (counts a) (length (counts a) - 1 - head a .loop .d) 0
+
+one-small : (a : tie.After-shared-slice-known6 Inv-loop μ-loop) → one a ≤ countLimit
+one-small a = omega (arith, a .shared-slice-known6 .given (length (counts a) - 1 - head a .loop .d))
 
 -- There are too few ticks for a sum above the limit.
-taken-left : (a : tie.After-shared-slice-known6 Inv-loop μ-loop) → taken a ≤ head a .loop .rest
-taken-left a =
+one-left : (a : tie.After-shared-slice-known6 Inv-loop μ-loop) → one a ≤ head a .loop .rest
+one-left a =
     let s = start a in
-    omega (arith, taken-small a, head a .loop .inv .1, a .before .loop-test .taken, s .pre .within, s .pre .fewer)
+    omega (arith, one-small a, head a .loop .inv .1, a .before .loop-test .taken, s .pre .within, s .pre .fewer)
+
+-- From where its second tick is known.
+abbrev other : tie.After-shared-slice-known7 Inv-loop μ-loop → ℕ
+other b = let a = b .before in getD (counts a) (length (counts a) - 1 - (head a .loop .d + 1)) 0
+
+other-small : (b : tie.After-shared-slice-known7 Inv-loop μ-loop) → other b ≤ countLimit
+other-small b = let a = b .before in omega (arith, b .shared-slice-known7 .given (length (counts a) - 1 - (head a .loop .d + 1)))
+
+other-left : (b : tie.After-shared-slice-known7 Inv-loop μ-loop) → other b ≤ head (b .before) .loop .rest - one (b .before)
+other-left b =
+    let a = b .before in
+    let s = start a in
+    omega (arith, one-small a, other-small b, head a .loop .inv .1, a .before .loop-test .taken, s .pre .within, s .pre .fewer)
 
 loop-again : tie.Need-loop-again Inv-loop μ-loop
 loop-again c =
-    let wider = c .before .before in
-    let a = wider .before .before in
-    let inv = head a .loop .inv in
+    let wider = c .before .before .before in
+    let b = wider .before .before .before in
+    let a = b .before in
+    let h = head a .loop in
+    let s = start a in
     let inside = a .before .loop-test .taken in
-    let more : sumLimit ≤ head a .loop .rest - taken a + (head a .loop .d + 1) * countLimit =
-    omega (arith, taken-small a, taken-left a, inv .1) in (
-      omega (arith, inv .0),
-      more,
-      rested-more _ _ (start a .args .unlimited) _ (start a .pre) _ _ _ _ _ _ (inv .2) inside (inv .0) (taken a) refl (taken-left a) more
-          (wider .larger .ensures) (c .lowered2 .ensures),
+    let less : h .rest - one a ≤ sumLimit = omega (arith, h .inv .0) in
+    let more : sumLimit ≤ h .rest - one a + (h .d + 1) * countLimit = omega (arith, one-small a, one-left a, h .inv .1) in
+    let most : sumLimit ≤ h .rest - one a - other b + (h .d + 1 + 1) * countLimit =
+    omega (arith, other-small b, other-left b, more) in
+    let first =
+    rested-more _ _ (s .args .unlimited) _ (s .pre) _ _ _ _ _ _ (h .inv .2) (omega (arith, inside)) (h .inv .0) (one a) refl (one-left a)
+    more refl refl in (
+      omega (arith, less),
+      most,
+      rested-more _ _ (s .args .unlimited) _ (s .pre) _ _ _ _ _ _ first inside less (other b) refl (other-left b) most
+          (wider .largest .ensures) (c .lowered-twice .ensures),
     )
 
+-- ---- the end
 returns : tie.Need-returns Inv-loop μ-loop
 returns c =
-    let end = c .before .before in
-    rw (c .before .difference .ensures, c .difference2 .ensures)
-    (narrowed-whole _ _ _ _ _ _ _ _ (end .before .loop .inv .2) (omega (arith, end .loop-test .left)))
+    let h = c .before .before .before .loop in
+    rw (c .cut-off .ensures) (narrowed-whole _ _ _ _ _ _ _ _ (h .inv .2) (omega (arith, c .before .if1 .taken)))
+
+-- Where one window is left, seen from where its tick is known.
+abbrev tail : tie.After-shared-slice-known12 Inv-loop μ-loop → tie.At-loop Inv-loop μ-loop
+tail a = a .before .before .before
+
+abbrev begun : tie.After-shared-slice-known12 Inv-loop μ-loop → tie.Start Inv-loop μ-loop
+begun a = tail a .before .before .before .before .before .before .before
+
+abbrev oldest : tie.After-shared-slice-known12 Inv-loop μ-loop → ℕ
+oldest a =
+    let xs = begun a .args .ticks .now in getD xs (length xs - 1 - tail a .loop .d) 0
+
+oldest-small : (a : tie.After-shared-slice-known12 Inv-loop μ-loop) → oldest a ≤ countLimit
+oldest-small a = omega (arith, a .shared-slice-known12 .given (length (begun a .args .ticks .now) - 1 - tail a .loop .d))
+
+oldest-left : (a : tie.After-shared-slice-known12 Inv-loop μ-loop) → oldest a ≤ tail a .loop .rest
+oldest-left a =
+    let s = begun a in
+    omega (arith, oldest-small a, tail a .loop .inv .1, a .before .if1 .left, s .pre .within, s .pre .fewer)
+
+returns-2 : tie.Need-returns-2 Inv-loop μ-loop
+returns-2 c =
+    let found = c .before .before .before in
+    let a = found .before .before in
+    let h = tail a .loop in
+    let s = begun a in
+    let more : sumLimit ≤ h .rest - oldest a + (h .d + 1) * countLimit = omega (arith, oldest-small a, oldest-left a, h .inv .1) in
+    let whole =
+    rested-more _ _ (s .args .unlimited) _ (s .pre) _ _ _ _ _ _ (h .inv .2) (omega (arith, a .before .if1 .left)) (h .inv .0) (oldest a) refl
+    (oldest-left a) more (found .larger .ensures) (c .before .lowered2 .ensures) in
+    rw (c .cut-off2 .ensures) (narrowed-whole _ _ _ _ _ _ _ _ whole (omega (arith, a .before .before .loop-test .left)))
 
 pub limit-spec : {M : Type 1} → statement M
 limit-spec =
@@ -76,19 +131,52 @@ limit-spec =
     (λ c. search needs)
     (λ c. search needs)
     (λ c. search needs)
-    (λ c. omega (arith, taken-small c))
-    (λ c. taken-left c)
+    (λ c. search needs)
+    (λ c. search needs)
+    (λ c. omega (arith, one-small c))
+    one-left
     (λ c. search needs)
     (λ c. search needs)
     (λ c. search needs)
-    (λ c. omega (arith, c .shared-slice-known7 .given (head (c .before) .loop .d + 1)))
-    (λ c. omega (arith, c .shared-slice-known7 .given (head (c .before) .loop .d + 1), head (c .before) .loop .inv .0))
+    (λ c. search needs)
+    (λ c. omega (arith, other-small c))
+    other-left
+    (λ c. search needs)
+    (λ c. search needs)
+    (λ c. omega (arith, c .shared-slice-known8 .given (head (c .before .before) .loop .d + 1)))
+    (λ c. omega (arith, c .shared-slice-known8 .given (head (c .before .before) .loop .d + 1), head (c .before .before) .loop .inv .0))
+    (λ c. search needs)
+    (λ c. search needs)
+    (λ c. search needs)
+    (λ c. omega (arith, c .shared-slice-known9 .given (head (c .before .before .before) .loop .d + 1 + 1)))
+    (λ c. let h = head (c .before .before .before) .loop in omega (arith, c .shared-slice-known9 .given (h .d + 1 + 1), h .inv .0))
     (λ c κs. search needs)
     (λ c. search needs)
     (λ c. search needs)
-    (λ c κs. omega (arith, head (c .before .before .before) .loop .inv .0))
     (λ c. search needs)
+    (λ c. search needs)
+    (λ c. search needs)
+    (λ c κs. let h = head (c .before .before .before .before .before .before) .loop in (omega (arith, h .inv .0), omega (arith, h .inv .0)))
+    (λ c. search needs)
+    (λ c. omega (arith, c .before .before .before .before .before .before .before .before .loop-test .taken))
     loop-again
     (λ c κs. search needs)
+    returns
+    (λ c. search needs)
+    (λ c. search needs)
+    (λ c. search needs)
+    (λ c. search needs)
+    (λ c. omega (arith, oldest-small c))
+    oldest-left
+    (λ c. search needs)
+    (λ c. search needs)
+    (λ c. search needs)
+    (λ c. omega (arith, c .shared-slice-known13 .given (tail (c .before) .loop .d + 1)))
+    (λ c. let h = tail (c .before) .loop in omega (arith, c .shared-slice-known13 .given (h .d + 1), h .inv .0))
     (λ c κs. search needs)
-    returns)
+    (λ c. search needs)
+    (λ c. search needs)
+    (λ c. search needs)
+    (λ c κs. omega (arith, tail (c .before .before .before) .loop .inv .0))
+    (λ c κs. search needs)
+    returns-2)
