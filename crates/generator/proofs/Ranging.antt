@@ -27,11 +27,11 @@ use Rattle.generator.specs.declared.Admissible.the-variants as admissibl
 use Rattle.generator.specs.declared.Sending.{Sending}
 use Rattle.generator.specs.declared.Sending.the-variants as sends
 use Rattle.generator.specs.declared.Limits.{Limits}
-use Rattle.generator.proofs.Sending.{the-type}
 use Rattle.generator.specs.Generating.{Sendable, chosen, ranging, sending, GeneratorNext}
 use Rattle.generator.specs.Answers.{rangeReply, sendingReply}
 use Rattle.generator.specs.Steps.{Limited, sumLimit, loweredTo, Small, Shows, ChoosesWhere}
 use Rattle.generator.specs.Steps.{HoldsWhere, HeldMore, HeldAsFound, Held}
+use Rattle.generator.proofs.Sending.{the-type}
 use Rattle.generator.proofs.Said.{range-answer, ranging-none, ranging-range, ranging-from, count-limited}
 use Rattle.generator.proofs.Said.{sendable-iff, chosen-within, sent-from}
 
@@ -54,9 +54,10 @@ lowered-iff false end u s x = ((λ l. (omega arith, omega arith)), λ l. omega (
 raised-rest : (lo l r : ℕ) → r ≤ sumLimit → max lo (l + r) - sumLimit ≡ max (lo - sumLimit) (l - (sumLimit - r))
 raised-rest lo l r h = omega arith
 
-lowered-rest : (b : Bool) (end u r : ℕ) → r ≤ sumLimit → loweredTo b end u r - sumLimit ≡ loweredBy b (end - sumLimit) u (sumLimit - r)
-lowered-rest true end u r h = refl
-lowered-rest false end u r h = omega arith
+lowered-rest : (b : Bool) (hi u r : ℕ) → r ≤ sumLimit
+    → loweredTo b hi u r - (sumLimit - 1) ≡ loweredBy b (hi - (sumLimit - 1)) u (sumLimit - r)
+lowered-rest true hi u r h = refl
+lowered-rest false hi u r h = omega arith
 
 -- The figures of d + 1 ticks are the entries with index d.
 inside-iff : (us ls : List ℕ) (b : Bool) (d s : ℕ) → d < length us → s ≤ (d + 1) * countLimit
@@ -156,27 +157,28 @@ module _ (us ls : List ℕ) (b : Bool) (xs : List ℕ) where
           (more (omega arith) (omega (arith, ap (λ k. getD ls k 0) (add-one d)))
           (p₂ ∙ ap (λ k. loweredBy b end (getD us k 0) s′) (add-one d)))
 
-    -- The loop has them with the limit of sums added, and what the sum leaves of it.
+    -- The loop has them with the limit of sums added, the largest count in place of the end, and what the sum leaves of that limit.
     pub rested-once
-        : (lo end : ℕ) → lo ≡ getD ls 0 0 + sumLimit → end ≡ loweredTo b (suc figureLimit + sumLimit) (getD us 0 0) sumLimit
-        → Narrowed (lo - sumLimit) (end - sumLimit) (sumLimit - sumLimit) 0
-    rested-once lo end p₁ p₂ =
+        : (lo hi : ℕ) → lo ≡ getD ls 0 0 + sumLimit → hi ≡ loweredTo b (figureLimit + sumLimit) (getD us 0 0) sumLimit
+        → Narrowed (lo - sumLimit) (hi - (sumLimit - 1)) (sumLimit - sumLimit) 0
+    rested-once lo hi p₁ p₂ =
         let first : lo - sumLimit ≡ getD ls 0 0 = omega arith in
         rw first
-        (narrowed-once (end - sumLimit) (ap (λ k. k - sumLimit) p₂ ∙ lowered-rest b _ (getD us 0 0) sumLimit (le-refl sumLimit)))
+        (narrowed-once (hi - (sumLimit - 1))
+        (ap (λ k. k - (sumLimit - 1)) p₂ ∙ lowered-rest b _ (getD us 0 0) sumLimit (le-refl sumLimit)))
 
     pub rested-more
-        : (lo end r d lo′ end′ : ℕ) → Narrowed (lo - sumLimit) (end - sumLimit) (sumLimit - r) d → d < length xs → r ≤ sumLimit
+        : (lo hi r d lo′ hi′ : ℕ) → Narrowed (lo - sumLimit) (hi - (sumLimit - 1)) (sumLimit - r) d → d < length xs → r ≤ sumLimit
         → (t : ℕ) → t ≡ getD xs (length xs - 1 - d) 0 → t ≤ r → sumLimit ≤ r - t + (d + 1) * countLimit
-        → lo′ ≡ max lo (getD ls (d + 1) 0 + (r - t)) → end′ ≡ loweredTo b end (getD us (d + 1) 0) (r - t)
-        → Narrowed (lo′ - sumLimit) (end′ - sumLimit) (sumLimit - (r - t)) (d + 1)
-    rested-more lo end r d lo′ end′ N h l t e m c p₁ p₂ =
+        → lo′ ≡ max lo (getD ls (d + 1) 0 + (r - t)) → hi′ ≡ loweredTo b hi (getD us (d + 1) 0) (r - t)
+        → Narrowed (lo′ - sumLimit) (hi′ - (sumLimit - 1)) (sumLimit - (r - t)) (d + 1)
+    rested-more lo hi r d lo′ hi′ N h l t e m c p₁ p₂ =
         let same : sumLimit - r + getD xs (length xs - 1 - d) 0 ≡ sumLimit - (r - t) = omega (arith, l, e, m) in
         let less : r - t ≤ sumLimit = omega (arith, l) in
-        subst (λ s. Narrowed (lo′ - sumLimit) (end′ - sumLimit) s (d + 1)) same
-        (narrowed-more (lo - sumLimit) (end - sumLimit) (sumLimit - r) d _ _ N h (rw same (omega arith))
+        subst (λ s. Narrowed (lo′ - sumLimit) (hi′ - (sumLimit - 1)) s (d + 1)) same
+        (narrowed-more (lo - sumLimit) (hi - (sumLimit - 1)) (sumLimit - r) d _ _ N h (rw same (omega arith))
         (rw same (ap (λ k. k - sumLimit) p₁ ∙ raised-rest lo (getD ls (d + 1) 0) (r - t) less))
-        (rw same (ap (λ k. k - sumLimit) p₂ ∙ lowered-rest b end (getD us (d + 1) 0) (r - t) less)))
+        (rw same (ap (λ k. k - (sumLimit - 1)) p₂ ∙ lowered-rest b hi (getD us (d + 1) 0) (r - t) less)))
 
   -- There is no window left.
   pub narrowed-whole

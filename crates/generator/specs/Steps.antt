@@ -69,15 +69,15 @@ Limited v r = (x : ℕ) → (Keeps (curvesOf (v .pair)) (then (v .held) x) × (x
 abbrev pub sumLimit : ℕ
 sumLimit = 1099511627776
 
--- Limits that have it added, without it.
+-- From a smallest and a largest count that have it added.
 abbrev pub cutOff : ℕ → ℕ → Limits
-cutOff lo end = record { lo = lo - sumLimit; end = end - sumLimit }
+cutOff lo hi = record { lo = lo - sumLimit; end = hi - (sumLimit - 1) }
 
--- What a window with the ceiling u leaves of an end, both with the limit of sums added; r is what the sum of its ticks before the next one
--- leaves of that limit. By the pair's mark.
+-- What a window with the ceiling u leaves of a largest count, both with the limit of sums added; r is what the sum of its ticks before the
+-- next one leaves of that limit. By the pair's mark.
 abbrev pub loweredTo : Bool → ℕ → ℕ → ℕ → ℕ
-loweredTo true end u r = end
-loweredTo false end u r = min end (u + 1 + r)
+loweredTo true hi u r = hi
+loweredTo false hi u r = min hi (u + r)
 
 -- Where there is such a count, all are within the limit of figures.
 abbrev pub Small : Limits → Type 0

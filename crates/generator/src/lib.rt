@@ -5,7 +5,7 @@ use closure::Closing;
 use history::History;
 use history::Legality;
 ghost use mathlib.Core.Path.{_≡_};
-ghost use Prim.Native.Nat.{min, max, _-_, _≤_};
+ghost use Prim.Native.Nat.{min, max, _+_, _-_, _≤_};
 ghost use mathlib.Core.Bool.{true};
 ghost use Rattle.curves.specs.Unlimited.{withMark};
 ghost use Rattle.history.specs.States.{historyOf, viewOf};
@@ -20,8 +20,8 @@ ghost use Rattle.generator.specs.Steps.{HoldsWhere, Held, sumLimit, cutO
 // The longest horizon.
 const MAX_HORIZON: usize = 256;
 
-// One above the largest figure: no count above that figure is sent.
-const COUNT_END: u64 = 16_776_961;
+// The largest figure: no count above it is sent.
+const COUNT_LIMIT: u64 = 16_776_960;
 
 // 2^40: no sum of held ticks is above it, as there are at most 256, of 32 bits each.
 const SUM_LIMIT: u64 = 1_099_511_627_776;
@@ -279,8 +279,8 @@ fn find_range(
     range_of(limits)
 }
 
-// Two windows a turn: compared with each other first, they make the turns wait for one comparison each. `rest` is what the sum of the d
-// ticks before the next one leaves of the limit of sums; with it added a figure stands for what that sum leaves of it.
+// Two windows a turn: compared with each other first, they make a turn wait for one comparison of the turn before. `rest` is what the sum
+// of the d ticks before the next one leaves of the limit of sums; with it added a figure stands for what that sum leaves of it.
 fn limit(upper: &[u32], lower: &[u32], unlimited: bool, ticks: &[u32]) -> Limits
     requires { ⌜ Slices (now upper) (now lower) (now ticks) ⌝ }
     ensures { λ r. ⌜ Limited (viewWith (now (upper .entry)) (now (lower .entry)) unlimited (now (ticks .entry))) r ⌝ }
@@ -288,64 +288,64 @@ fn limit(upper: &[u32], lower: &[u32], unlimited: bool, ticks: &[u32]) -> Limits
     let held = ticks.len();
     let mut rest = SUM_LIMIT;
     let mut lo = lower[0] as u64 + rest;
-    let mut end = lowered(COUNT_END + rest, upper[0], unlimited, rest);
+    let mut hi = lowered(COUNT_LIMIT + rest, upper[0], unlimited, rest);
     let mut d = 0;
     while d + 1 < held {
         let e = d + 1;
         let first = rest - ticks[held - 1 - d] as u64;
-        rest = first - ticks[held - 1 - e] as u64;
-        lo = largest(lo, lower[e] as u64 + first, lower[e + 1] as u64 + rest);
-        end = lowered_twice(end, upper[e], first, upper[e + 1], rest, unlimited);
+        let count = ticks[held - 1 - e];
+        rest = first - count as u64;
+        lo = raised_twice(lo, lower[e], lower[e + 1], count, rest);
+        hi = lowered_twice(hi, upper[e], upper[e + 1], count, rest, unlimited);
         d = e + 1;
     }
     if held <= d {
-        return cut_off(lo, end);
+        return cut_off(lo, hi);
     }
     let left = rest - ticks[held - 1 - d] as u64;
     let last = larger(lo, lower[d + 1] as u64 + left);
-    cut_off(last, lowered(end, upper[d + 1], unlimited, left))
+    cut_off(last, lowered(hi, upper[d + 1], unlimited, left))
 }
 
 // The limits without that of sums. Only here they are cut off at 0: a ceiling that the ticks before have passed leaves room for no count,
 // and a least that they have asks for none.
-fn cut_off(lo: u64, end: u64) -> Limits
-    ensures { λ r. ⌜ r ≡ cutOff lo end ⌝ }
+fn cut_off(lo: u64, hi: u64) -> Limits
+    ensures { λ r. ⌜ r ≡ cutOff lo hi ⌝ }
 {
     Limits {
         lo: difference(lo, SUM_LIMIT),
-        end: difference(end, SUM_LIMIT),
+        end: difference(hi, SUM_LIMIT - 1),
     }
 }
 
-// The end of the counts that a window with this ceiling leaves; without ceilings it stays.
-fn lowered(end: u64, ceiling: u32, unlimited: bool, rest: u64) -> u64
+// The largest of the counts that a window with this ceiling leaves; without ceilings it stays.
+fn lowered(hi: u64, ceiling: u32, unlimited: bool, rest: u64) -> u64
     requires { ⌜ rest ≤ sumLimit ⌝ }
-    ensures { λ r. ⌜ r ≡ loweredTo unlimited end ceiling rest ⌝ }
+    ensures { λ r. ⌜ r ≡ loweredTo unlimited hi ceiling rest ⌝ }
 {
     if unlimited {
-        return end;
+        return hi;
     }
-    smaller(end, ceiling as u64 + 1 + rest)
+    smaller(hi, ceiling as u64 + rest)
 }
 
-// And that two windows leave.
-fn lowered_twice(end: u64, one: u32, first: u64, other: u32, rest: u64, unlimited: bool) -> u64
-    requires { ⌜ (first ≤ sumLimit) × (rest ≤ sumLimit) ⌝ }
-    ensures { λ r. ⌜ r ≡ loweredTo unlimited (loweredTo unlimited end one first) other rest ⌝ }
+// That which two windows leave: `rest` is the longer one's, and `count` the tick that the other does not have.
+fn lowered_twice(hi: u64, one: u32, other: u32, count: u32, rest: u64, unlimited: bool) -> u64
+    requires { ⌜ rest ≤ sumLimit ⌝ }
+    ensures { λ r. ⌜ r ≡ loweredTo unlimited (loweredTo unlimited hi one (rest + count)) other rest ⌝ }
 {
     if unlimited {
-        return end;
+        return hi;
     }
-    smaller(
-        end,
-        smaller(one as u64 + 1 + first, other as u64 + 1 + rest),
-    )
+    smaller(hi, rest + smaller(one as u64 + count as u64, other as u64))
 }
 
-fn largest(a: u64, b: u64, c: u64) -> u64
-    ensures { λ r. ⌜ r ≡ max (max a b) c ⌝ }
+// The smallest of the counts, by the leasts of two such windows.
+fn raised_twice(lo: u64, one: u32, other: u32, count: u32, rest: u64) -> u64
+    requires { ⌜ rest ≤ sumLimit ⌝ }
+    ensures { λ r. ⌜ r ≡ max (max lo (one + (rest + count))) (other + rest) ⌝ }
 {
-    larger(a, larger(b, c))
+    larger(lo, rest + larger(one as u64 + count as u64, other as u64))
 }
 
 fn larger(a: u64, b: u64) -> u64

@@ -1,19 +1,19 @@
--- `generator::limit` meets its contract: before a turn lo and end, without the limit of sums, stand for the windows of up to d + 1 ticks.
+-- `generator::limit` meets its contract: before a turn lo and hi, without the limit of sums, stand for the windows of up to d + 1 ticks.
 -- Assumes nothing.
-use Rattle.laws.proofs.Base.{ℕ, _+_, _-_, _*_, _≤_, refl, List, arith, needs, length, getD}
+use Rattle.laws.proofs.Base.{ℕ, _+_, _-_, _*_, _≤_, max, _≡_, refl, ap, _∙_, List, arith, needs, length, getD}
 use Rattle.curves.specs.Streams.{countLimit}
-use Rattle.generator.specs.Steps.{sumLimit}
+use Rattle.generator.specs.Steps.{sumLimit, loweredTo}
 use Rattle.generator.proofs.Ranging.{Narrowed, rested-once, rested-more, narrowed-whole}
 use Rattle.generator.proofs.limit.Statement.{statement}
 use Rattle.generator.proofs.limit.Tie as tie
 
 abbrev Inv-loop : tie.InvT-loop
-Inv-loop upper lower unlimited ticks held rest₀ lo₀ end₀ d₀ rest lo end d =
+Inv-loop upper lower unlimited ticks held rest₀ lo₀ hi₀ d₀ rest lo hi d =
     (rest ≤ sumLimit) × (sumLimit ≤ rest + d * countLimit)
-    × Narrowed upper lower unlimited ticks (lo - sumLimit) (end - sumLimit) (sumLimit - rest) d
+    × Narrowed upper lower unlimited ticks (lo - sumLimit) (hi - (sumLimit - 1)) (sumLimit - rest) d
 
 abbrev μ-loop : tie.MeasureT-loop
-μ-loop upper lower unlimited ticks held rest₀ lo₀ end₀ d₀ rest lo end d = length ticks - d
+μ-loop upper lower unlimited ticks held rest₀ lo₀ hi₀ d₀ rest lo hi d = length ticks - d
 
 loop-holds : tie.Need-loop-holds Inv-loop μ-loop
 loop-holds c =
@@ -64,17 +64,24 @@ loop-again c =
     let h = head a .loop in
     let s = start a in
     let inside = a .before .loop-test .taken in
+    let least : ℕ → ℕ = λ i. getD (s .args .lower .now) i 0 in
+    let ceiling : ℕ → ℕ = λ i. getD (s .args .upper .now) i 0 in
+    let mark = s .args .unlimited in
+    let rest = h .rest - one a - other b in
     let less : h .rest - one a ≤ sumLimit = omega (arith, h .inv .0) in
     let more : sumLimit ≤ h .rest - one a + (h .d + 1) * countLimit = omega (arith, one-small a, one-left a, h .inv .1) in
     let most : sumLimit ≤ h .rest - one a - other b + (h .d + 1 + 1) * countLimit =
     omega (arith, other-small b, other-left b, more) in
+    let both : h .rest - one a - other b + other b ≡ h .rest - one a = omega (arith, other-left b) in
     let first =
     rested-more _ _ (s .args .unlimited) _ (s .pre) _ _ _ _ _ _ (h .inv .2) (omega (arith, inside)) (h .inv .0) (one a) refl (one-left a)
     more refl refl in (
       omega (arith, less),
       most,
       rested-more _ _ (s .args .unlimited) _ (s .pre) _ _ _ _ _ _ first inside less (other b) refl (other-left b) most
-          (wider .largest .ensures) (c .lowered-twice .ensures),
+          (wider .raised-twice .ensures ∙ ap (λ k. max (max (h .lo) (least (h .d + 1) + k)) (least (h .d + 1 + 1) + rest)) both)
+          (c .lowered-twice .ensures
+          ∙ ap (λ k. loweredTo mark (loweredTo mark (h .hi) (ceiling (h .d + 1)) k) (ceiling (h .d + 1 + 1)) rest) both),
     )
 
 -- ---- the end
@@ -110,8 +117,8 @@ returns-2 c =
     let s = begun a in
     let more : sumLimit ≤ h .rest - oldest a + (h .d + 1) * countLimit = omega (arith, oldest-small a, oldest-left a, h .inv .1) in
     let whole =
-    rested-more _ _ (s .args .unlimited) _ (s .pre) _ _ _ _ _ _ (h .inv .2) (omega (arith, a .before .if1 .left)) (h .inv .0) (oldest a) refl
-    (oldest-left a) more (found .larger .ensures) (c .before .lowered2 .ensures) in
+    rested-more _ _ (s .args .unlimited) _ (s .pre) _ _ _ _ _ _ (h .inv .2) (omega (arith, a .before .if1 .left)) (h .inv .0) (oldest a)
+    refl (oldest-left a) more (found .larger .ensures) (c .before .lowered2 .ensures) in
     rw (c .cut-off2 .ensures) (narrowed-whole _ _ _ _ _ _ _ _ whole (omega (arith, a .before .before .loop-test .left)))
 
 pub limit-spec : {M : Type 1} → statement M
@@ -143,20 +150,16 @@ limit-spec =
     other-left
     (λ c. search needs)
     (λ c. search needs)
-    (λ c. omega (arith, c .shared-slice-known8 .given (head (c .before .before) .loop .d + 1)))
-    (λ c. omega (arith, c .shared-slice-known8 .given (head (c .before .before) .loop .d + 1), head (c .before .before) .loop .inv .0))
     (λ c. search needs)
     (λ c. search needs)
     (λ c. search needs)
-    (λ c. omega (arith, c .shared-slice-known9 .given (head (c .before .before .before) .loop .d + 1 + 1)))
-    (λ c. let h = head (c .before .before .before) .loop in omega (arith, c .shared-slice-known9 .given (h .d + 1 + 1), h .inv .0))
-    (λ c κs. search needs)
+    (λ c κs. omega (arith, head (c .before .before .before) .loop .inv .0))
     (λ c. search needs)
     (λ c. search needs)
     (λ c. search needs)
     (λ c. search needs)
     (λ c. search needs)
-    (λ c κs. let h = head (c .before .before .before .before .before .before) .loop in (omega (arith, h .inv .0), omega (arith, h .inv .0)))
+    (λ c κs. omega (arith, head (c .before .before .before .before .before .before) .loop .inv .0))
     (λ c. search needs)
     (λ c. omega (arith, c .before .before .before .before .before .before .before .before .loop-test .taken))
     loop-again

@@ -1,4 +1,4 @@
--- `generator::lowered_twice` meets its contract: without ceilings the end stays, and else either ceiling may lower it.
+-- `generator::lowered_twice` meets its contract: without ceilings the largest count stays, and else either ceiling may lower it.
 -- Assumes nothing.
 use Rattle.laws.proofs.Base.{refl, arith, needs}
 use Rattle.generator.proofs.lowered_twice.Statement.{statement}
@@ -10,9 +10,7 @@ lowered-twice-spec =
     (tie.spec
     (λ c. rw (c .if1 .taken) refl)
     (λ c. search needs)
-    (λ c. search needs)
-    (λ c. search needs)
-    (λ c. search needs)
     (λ c κs. search needs)
+    (λ c. search needs)
     (λ c κs. search needs)
     (λ c. rw (c .before .before .if1 .left) (omega (arith, c .before .smaller .ensures, c .smaller2 .ensures))))
