@@ -1,7 +1,10 @@
--- Laws over plain variables for the counts that the next tick can have: what a turn of the loop keeps, and what the range answers.
+-- Laws over plain variables for the counts that the next tick can have: what a turn of the loop keeps, what the range answers, and what is
+-- held after one is sent.
 -- Assumes nothing.
-use Rattle.laws.proofs.Base.{ℕ, suc, _+_, _-_, _*_, _%_, _≤_, _<_, max, _≡_, sym, ap, _∙_, Bool, true, false, List, _↔_, le-refl, add-one}
-use Rattle.laws.proofs.Base.{arith, length, getD}
+use Rattle.laws.proofs.Base.{ℕ, suc, _+_, _-_, _*_, _%_, _≤_, _<_, min, max, _≡_, refl, sym, ap, _∙_, subst, Bool, true, false, _↔_}
+use Rattle.laws.proofs.Base.{List, [], _∷_, _++_, le-refl, add-one, arith, length, getD, take, drop}
+use types.Run.{OneOf, miss}
+use denote.Enum.Declared.{tagOf}
 use Rattle.curves.specs.Streams.{countLimit}
 use Rattle.curves.specs.Pairs.{Pair, figure}
 use Rattle.curves.specs.Unlimited.{withMark, curvesOf}
@@ -12,21 +15,32 @@ use Rattle.curves.proofs.Highest.{highest-at}
 use Rattle.curves.proofs.NextTick.{last-none, last-more, length-then, last-next, range-from, no-range}
 use Rattle.curves.proofs.Verdicts.{KeptTo, kept-none, kept-more}
 use Rattle.bounds.specs.Bounds.{figureLimit}
-use Rattle.history.specs.States.{View, Legal}
+use Rattle.lists.specs.Pushing.{Pushed}
+use Rattle.history.specs.declared.History.{History}
+use Rattle.history.specs.States.{View, historyOf, viewOf, added, Legal}
 use Rattle.history.specs.Steps.{Slices}
-use Rattle.history.proofs.Slicing.{judged-next}
+use Rattle.history.proofs.Histories.{legal-sizes}
+use Rattle.history.proofs.Slicing.{Arrays, some-window, tick-for-each, added-is, judged-next}
+use Rattle.generator.specs.declared.Generator.{Generator}
 use Rattle.generator.specs.declared.Admissible.{Admissible}
 use Rattle.generator.specs.declared.Admissible.the-variants as admissible
 use Rattle.generator.specs.declared.Sending.{Sending}
 use Rattle.generator.specs.declared.Sending.the-variants as sends
 use Rattle.generator.specs.declared.Limits.{Limits}
-use Rattle.generator.specs.Generating.{Sendable, chosen, ranging, sending}
+use Rattle.generator.specs.Generating.{Sendable, chosen, ranging, sending, GeneratorNext}
 use Rattle.generator.specs.Answers.{rangeReply, sendingReply}
-use Rattle.generator.specs.Steps.{Limited, loweredBy, Small, Shows, ChoosesWhere, AddsSent}
+use Rattle.generator.specs.Steps.{Limited, sumLimit, loweredTo, Small, Shows, ChoosesWhere}
+use Rattle.generator.specs.Steps.{HoldsWhere, HeldMore, HeldAsFound, Held}
+use Rattle.generator.proofs.Sending.{the-type}
 use Rattle.generator.proofs.Said.{range-answer, ranging-none, ranging-range, ranging-from, count-limited}
 use Rattle.generator.proofs.Said.{sendable-iff, chosen-within, sent-from}
 
 -- ---- one window
+-- What a window with the ceiling u, of whose ticks those before the next one have the sum s, leaves of an end; by the pair's mark.
+abbrev loweredBy : Bool → ℕ → ℕ → ℕ → ℕ
+loweredBy true end u s = end
+loweredBy false end u s = min end (u + 1 - s)
+
 -- With the ceiling u the sum is not above it, where there are ceilings.
 abbrev Below : Bool → ℕ → ℕ → Type 0
 Below true u s = Unit {0}
@@ -35,6 +49,15 @@ Below false u s = s ≤ u
 lowered-iff : (b : Bool) (end u s x : ℕ) → (x < loweredBy b end u s) ↔ ((x < end) × Below b u (s + x))
 lowered-iff true end u s x = ((λ l. (l, tt)), λ l. l .0)
 lowered-iff false end u s x = ((λ l. (omega arith, omega arith)), λ l. omega (arith, l .0, l .1))
+
+-- With the limit of sums added to a limit of the counts, and with what the sum leaves of it in place of the sum, it comes to the same.
+raised-rest : (lo l r : ℕ) → r ≤ sumLimit → max lo (l + r) - sumLimit ≡ max (lo - sumLimit) (l - (sumLimit - r))
+raised-rest lo l r h = omega arith
+
+lowered-rest : (b : Bool) (hi u r : ℕ) → r ≤ sumLimit
+    → loweredTo b hi u r - (sumLimit - 1) ≡ loweredBy b (hi - (sumLimit - 1)) u (sumLimit - r)
+lowered-rest true hi u r h = refl
+lowered-rest false hi u r h = omega arith
 
 -- The figures of d + 1 ticks are the entries with index d.
 inside-iff : (us ls : List ℕ) (b : Bool) (d s : ℕ) → d < length us → s ≤ (d + 1) * countLimit
@@ -79,7 +102,7 @@ module _ (us ls : List ℕ) (b : Bool) (xs : List ℕ) where
             ((λ e l j. k e (omega arith) j), inside .0 (rw sums at i))
 
     -- The window of the next tick alone gives the first limits.
-    pub narrowed-once : (end : ℕ) → end ≡ loweredBy b (suc figureLimit) (getD us 0 0) 0 → Narrowed (getD ls 0 0) end 0 0
+    narrowed-once : (end : ℕ) → end ≡ loweredBy b (suc figureLimit) (getD us 0 0) 0 → Narrowed (getD ls 0 0) end 0 0
     narrowed-once end e =
         record { held = omega arith; summed = omega (arith, last-none xs); counts = λ x. rw e (there x, back x) }
       where
@@ -126,13 +149,36 @@ module _ (us ls : List ℕ) (b : Bool) (xs : List ℕ) where
               (next x l .1 (k, (omega arith, m)), l)
 
       -- A turn: cut off at 0, the differences of the next figures and the sum narrow the limits.
-      pub narrowed-more
-          : (low : ℕ) → s′ ≤ (d + 1) * countLimit → low ≡ getD ls (d + 1) 0 - s′ → lo′ ≡ max lo low
-          → end′ ≡ loweredBy b end (getD us (d + 1) 0) s′ → Narrowed lo′ end′ s′ (d + 1)
-      narrowed-more low c a p₁ p₂ =
+      narrowed-more
+          : s′ ≤ (d + 1) * countLimit → lo′ ≡ max lo (getD ls (d + 1) 0 - s′) → end′ ≡ loweredBy b end (getD us (d + 1) 0) s′
+          → Narrowed lo′ end′ s′ (d + 1)
+      narrowed-more c p₁ p₂ =
           rw (add-one d)
           (more (omega arith) (omega (arith, ap (λ k. getD ls k 0) (add-one d)))
           (p₂ ∙ ap (λ k. loweredBy b end (getD us k 0) s′) (add-one d)))
+
+    -- The loop has them with the limit of sums added, the largest count in place of the end, and what the sum leaves of that limit.
+    pub rested-once
+        : (lo hi : ℕ) → lo ≡ getD ls 0 0 + sumLimit → hi ≡ loweredTo b (figureLimit + sumLimit) (getD us 0 0) sumLimit
+        → Narrowed (lo - sumLimit) (hi - (sumLimit - 1)) (sumLimit - sumLimit) 0
+    rested-once lo hi p₁ p₂ =
+        let first : lo - sumLimit ≡ getD ls 0 0 = omega arith in
+        rw first
+        (narrowed-once (hi - (sumLimit - 1))
+        (ap (λ k. k - (sumLimit - 1)) p₂ ∙ lowered-rest b _ (getD us 0 0) sumLimit (le-refl sumLimit)))
+
+    pub rested-more
+        : (lo hi r d lo′ hi′ : ℕ) → Narrowed (lo - sumLimit) (hi - (sumLimit - 1)) (sumLimit - r) d → d < length xs → r ≤ sumLimit
+        → (t : ℕ) → t ≡ getD xs (length xs - 1 - d) 0 → t ≤ r → sumLimit ≤ r - t + (d + 1) * countLimit
+        → lo′ ≡ max lo (getD ls (d + 1) 0 + (r - t)) → hi′ ≡ loweredTo b hi (getD us (d + 1) 0) (r - t)
+        → Narrowed (lo′ - sumLimit) (hi′ - (sumLimit - 1)) (sumLimit - (r - t)) (d + 1)
+    rested-more lo hi r d lo′ hi′ N h l t e m c p₁ p₂ =
+        let same : sumLimit - r + getD xs (length xs - 1 - d) 0 ≡ sumLimit - (r - t) = omega (arith, l, e, m) in
+        let less : r - t ≤ sumLimit = omega (arith, l) in
+        subst (λ s. Narrowed (lo′ - sumLimit) (hi′ - (sumLimit - 1)) s (d + 1)) same
+        (narrowed-more (lo - sumLimit) (hi - (sumLimit - 1)) (sumLimit - r) d _ _ N h (rw same (omega arith))
+        (rw same (ap (λ k. k - sumLimit) p₁ ∙ raised-rest lo (getD ls (d + 1) 0) (r - t) less))
+        (rw same (ap (λ k. k - (sumLimit - 1)) p₂ ∙ lowered-rest b hi (getD us (d + 1) 0) (r - t) less)))
 
   -- There is no window left.
   pub narrowed-whole
@@ -184,9 +230,60 @@ chooses-where v (admissible.Range lo hi) e =
 chooses-where v admissible.BadState e = tt
 chooses-where v admissible.NoCount e = tt
 
+-- ---- the held ticks and the next state
 -- A count is sent only where the state has its form.
-pub adds-sent : (v : View) (choice : ℕ) (s : Sending) → sendingReply s ≡ sending v choice → AddsSent s v
-adds-sent v choice (sends.Sent x) e =
+sent-legal : (v : View) (choice x : ℕ) → result x ≡ sending v choice → Legal v
+sent-legal v choice x e =
     let (b, shown, is) = sent-from v choice x (sym e) in ranging-from v b shown .0
-adds-sent v choice sends.BadState e = tt
-adds-sent v choice sends.NoCount e = tt
+
+-- Then there is a window, and a place for each.
+pub holds-where : (h : History) (choice : ℕ) (s : Sending) → Arrays h → sendingReply s ≡ sending (viewOf h) choice
+    → HoldsWhere s (h .horizon) (h .ticks)
+holds-where h choice (sends.Sent x) a e =
+    let l = legal-sizes h (sent-legal (viewOf h) choice x e) in (some-window h a l, tick-for-each h a l)
+holds-where h choice sends.BadState a e = tt
+holds-where h choice sends.NoCount a e = tt
+
+-- The count is put into its place.
+pub held-more : (s : Sending) (h k x : ℕ) (found front : List ℕ) (n : ℕ) → s ≡ sends.Sent x → Pushed (take (h - 1) found) k x front n
+    → Held s h k found (front ++ drop (h - 1) found) n
+held-more s h k x found front n e p = rw e (front, p, refl)
+
+-- Where none is sent nothing changes.
+abbrev pub refusals : List ℕ
+refusals = 1 ∷ 2 ∷ []
+
+pub held-as-found : (s : Sending) (h k : ℕ) (found : List ℕ) → OneOf refusals (tagOf the-type s) → Held s h k found found k
+held-as-found (sends.Sent x) h k found m = absurd (miss refusals 0 tt m)
+held-as-found sends.BadState h k found m = (refl, refl)
+held-as-found sends.NoCount h k found m = (refl, refl)
+
+-- The state that is put together then, with n ticks held in `left`.
+abbrev nextWith : Generator → List ℕ → ℕ → Generator
+nextWith g left n =
+    let h : History = g .history in
+    record { history = historyOf (h .horizon) (h .upper) (h .lower) (h .unlimited) n left }
+
+module _ (g : Generator) (choice : ℕ) (a : Arrays (g .history)) (left : List ℕ) (n : ℕ) where
+  sent-next : (x : ℕ) → Legal (viewOf (g .history))
+      → HeldMore (g .history .horizon) (g .history .held) x (g .history .ticks) left n
+      → viewOf (nextWith g left n .history) ≡ added (viewOf (g .history)) x
+  sent-next x l (front, p, f) =
+      let h : History = g .history in
+      ap (λ (ys : List ℕ). viewOf (historyOf (h .horizon) (h .upper) (h .lower) (h .unlimited) n ys)) f
+      ∙ added-is h a (legal-sizes h l) x front n p
+
+  kept : HeldAsFound (g .history .held) (g .history .ticks) left n → nextWith g left n ≡ g
+  kept (f, e) = λ i. nextWith g (f i) (e i)
+
+  by-sending : (s : Sending) → sendingReply s ≡ sending (viewOf (g .history)) choice
+      → Held s (g .history .horizon) (g .history .held) (g .history .ticks) left n
+      → GeneratorNext (sendingReply s) g (nextWith g left n)
+  by-sending (sends.Sent x) e h = sent-next x (sent-legal _ choice x e) h
+  by-sending sends.BadState e h = kept h
+  by-sending sends.NoCount e h = kept h
+
+  pub next-is : (s : Sending) → sendingReply s ≡ sending (viewOf (g .history)) choice
+      → Held s (g .history .horizon) (g .history .held) (g .history .ticks) left n
+      → GeneratorNext (sending (viewOf (g .history)) choice) g (nextWith g left n)
+  next-is s e h = rw (← e) (by-sending s e h)

@@ -5,20 +5,26 @@ use closure::Closing;
 use history::History;
 use history::Legality;
 ghost use mathlib.Core.Path.{_≡_};
-ghost use Prim.Native.Nat.{min, max, _-_};
+ghost use Prim.Native.Nat.{min, max, _+_, _-_, _≤_};
 ghost use mathlib.Core.Bool.{true};
 ghost use Rattle.curves.specs.Unlimited.{withMark};
-ghost use Rattle.history.specs.States.{viewOf, added, Legal};
+ghost use Rattle.history.specs.States.{historyOf, viewOf};
 ghost use Rattle.history.specs.Steps.{Slices, viewWith};
-ghost use Rattle.generator.specs.Generating.{sentFrom, GeneratorNext};
+ghost use Rattle.generator.specs.Generating.{sentFrom, ranging};
 ghost use Rattle.generator.specs.Opening.{generatorOpening};
 ghost use Rattle.generator.specs.Answers.{generatorOpeningReply, rangeReply, sendingReply};
 ghost use Rattle.generator.specs.Promises.{GeneratorOpened, GeneratorTicked, GeneratorRanged};
-ghost use Rattle.generator.specs.Steps.{generatorOpeningFor, historyFor, Limited, loweredBy, Small, Shows, ChoosesWhere};
-ghost use Rattle.generator.specs.Steps.{AddsSent};
+ghost use Rattle.generator.specs.Steps.{generatorOpeningFor, historyFor, Limited, loweredTo, Small, Shows, ChoosesWhere};
+ghost use Rattle.generator.specs.Steps.{HoldsWhere, Held, sumLimit, cutOff};
 
-// One above the largest figure: no count above that figure is sent.
-const COUNT_END: u64 = 16_776_961;
+// The longest horizon.
+const MAX_HORIZON: usize = 256;
+
+// The largest figure: no count above it is sent.
+const COUNT_LIMIT: u64 = 16_776_960;
+
+// 2^40: no sum of held ticks is above it, as there are at most 256, of 32 bits each.
+const SUM_LIMIT: u64 = 1_099_511_627_776;
 
 // Anyone may build one.
 pub struct Generator {
@@ -87,13 +93,35 @@ impl Generator {
         OpenedGenerator { opening, state }
     }
 
-    // Sends the count that the choice leads to.
+    // Sends the count that the choice leads to. Each array is taken out of the state once and put into the next one once: what lies between
+    // works on them where they are, as copies cost most of a tick.
     pub fn tick(self, choice: u32) -> Sent
         ensures { λ r. ⌜ GeneratorTicked self choice r ⌝ }
     {
-        let admissible = self.range();
+        let history = self.history;
+        let horizon = history.horizon;
+        let upper = history.upper;
+        let lower = history.lower;
+        let mut ticks = history.ticks;
+        let admissible = find_range(
+            horizon,
+            &upper,
+            &lower,
+            history.unlimited,
+            history.held,
+            &ticks,
+        );
         let sending = choose(admissible, choice);
-        let next = advance(self, sending);
+        let held = hold(sending, &mut ticks, horizon, history.held);
+        let history = History {
+            horizon,
+            upper,
+            lower,
+            unlimited: history.unlimited,
+            held,
+            ticks,
+        };
+        let next = Generator { history };
         Sent { sending, next }
     }
 
@@ -101,10 +129,18 @@ impl Generator {
     pub fn range(self) -> Admissible
         ensures { λ r. ⌜ GeneratorRanged self r ⌝ }
     {
-        let Legality::Legal = self.history.legality() else {
-            return Admissible::BadState;
-        };
-        range_of(find_limits(self.history))
+        let history = self.history;
+        let upper = history.upper;
+        let lower = history.lower;
+        let ticks = history.ticks;
+        find_range(
+            history.horizon,
+            &upper,
+            &lower,
+            history.unlimited,
+            history.held,
+            &ticks,
+        )
     }
 }
 
@@ -205,79 +241,111 @@ fn choose(admissible: Admissible, choice: u32) -> Sending
     }
 }
 
-// The next state.
-fn advance(generator: Generator, sending: Sending) -> Generator
-    requires { ⌜ AddsSent sending (viewOf (generator .history)) ⌝ }
-    ensures { λ r. ⌜ GeneratorNext (sendingReply sending) generator r ⌝ }
+// Puts a count that is sent behind the held ticks, one fewer than the horizon at most; else nothing changes. Gives back how many are held.
+fn hold(sending: Sending, ticks: &mut [u32], horizon: usize, held: usize) -> usize
+    requires { ⌜ HoldsWhere sending horizon (now ticks) ⌝ }
+    ensures { λ r. ⌜ Held sending horizon held (now (ticks .entry)) (now (ticks .exit)) r ⌝ }
 {
-    match sending {
-        Sending::Sent { count } => {
-            let history = with_tick(generator.history, count);
-            Generator { history }
-        }
-        Sending::BadState => generator,
-        Sending::NoCount => generator,
-    }
+    let Sending::Sent { count } = sending else {
+        return held;
+    };
+    lists::push(&mut ticks[..horizon - 1], held, count)
 }
 
-// The history with one tick more. At most one tick fewer than the horizon is held.
-fn with_tick(history: History, count: u32) -> History
-    requires { ⌜ Legal (viewOf history) ⌝ }
-    ensures { λ r. ⌜ viewOf r ≡ added (viewOf history) count ⌝ }
+// Question 12, and then the limits: by the figures up to the horizon, and the held ticks.
+fn find_range(
+    horizon: usize,
+    upper: &[u32; MAX_HORIZON],
+    lower: &[u32; MAX_HORIZON],
+    unlimited: bool,
+    held: usize,
+    ticks: &[u32; MAX_HORIZON],
+) -> Admissible
+    ensures { λ r. ⌜ rangeReply r ≡ ranging (viewOf (historyOf horizon (now (upper .entry)) (now (lower .entry)) unlimited held
+        (now (ticks .entry)))) ⌝ }
 {
-    let room = history.horizon - 1;
-    let mut ticks = history.ticks;
-    let mut next = history;
-    next.held = lists::push(&mut ticks[..room], history.held, count);
-    next.ticks = ticks;
-    next
+    let Legality::Legal = history::ask_legality(horizon, upper, lower, unlimited, held) else {
+        return Admissible::BadState;
+    };
+    let upper_figures: &[u32] = upper;
+    let lower_figures: &[u32] = lower;
+    let counts: &[u32] = ticks;
+    let limits = limit(
+        &upper_figures[..horizon],
+        &lower_figures[..horizon],
+        unlimited,
+        &counts[..held],
+    );
+    range_of(limits)
 }
 
-// By the view of the history: its figures up to the horizon, and its held ticks.
-fn find_limits(history: History) -> Limits
-    requires { ⌜ Legal (viewOf history) ⌝ }
-    ensures { λ r. ⌜ Limited (viewOf history) r ⌝ }
-{
-    let horizon = history.horizon;
-    let held = history.held;
-    let upper = history.upper;
-    let lower = history.lower;
-    let ticks = history.ticks;
-    limit(
-        &upper[..horizon],
-        &lower[..horizon],
-        history.unlimited,
-        &ticks[..held],
-    )
-}
-
-// Window after window; `sum` has the d ticks before the next one.
+// Two windows a turn: compared with each other first, they make a turn wait for one comparison of the turn before. `rest` is what the sum
+// of the d ticks before the next one leaves of the limit of sums; with it added a figure stands for what that sum leaves of it.
 fn limit(upper: &[u32], lower: &[u32], unlimited: bool, ticks: &[u32]) -> Limits
     requires { ⌜ Slices (now upper) (now lower) (now ticks) ⌝ }
     ensures { λ r. ⌜ Limited (viewWith (now (upper .entry)) (now (lower .entry)) unlimited (now (ticks .entry))) r ⌝ }
 {
     let held = ticks.len();
-    let mut lo = lower[0] as u64;
-    let mut end = lowered(COUNT_END, upper[0], unlimited, 0);
-    let mut sum = 0;
+    let mut rest = SUM_LIMIT;
+    let mut lo = lower[0] as u64 + rest;
+    let mut hi = lowered(COUNT_LIMIT + rest, upper[0], unlimited, rest);
     let mut d = 0;
-    while d < held {
-        sum += ticks[held - 1 - d] as u64;
-        d += 1;
-        lo = larger(lo, difference(lower[d] as u64, sum));
-        end = lowered(end, upper[d], unlimited, sum);
+    while d + 1 < held {
+        let e = d + 1;
+        let first = rest - ticks[held - 1 - d] as u64;
+        let count = ticks[held - 1 - e];
+        rest = first - count as u64;
+        lo = raised_twice(lo, lower[e], lower[e + 1], count, rest);
+        hi = lowered_twice(hi, upper[e], upper[e + 1], count, rest, unlimited);
+        d = e + 1;
     }
-    Limits { lo, end }
+    if held <= d {
+        return cut_off(lo, hi);
+    }
+    let left = rest - ticks[held - 1 - d] as u64;
+    let last = larger(lo, lower[d + 1] as u64 + left);
+    cut_off(last, lowered(hi, upper[d + 1], unlimited, left))
 }
 
-// The end of the counts that a window with this ceiling leaves; without ceilings it stays.
-fn lowered(end: u64, ceiling: u32, unlimited: bool, sum: u64) -> u64
-    ensures { λ r. ⌜ r ≡ loweredBy unlimited end ceiling sum ⌝ }
+// The limits without that of sums. Only here they are cut off at 0: a ceiling that the ticks before have passed leaves room for no count,
+// and a least that they have asks for none.
+fn cut_off(lo: u64, hi: u64) -> Limits
+    ensures { λ r. ⌜ r ≡ cutOff lo hi ⌝ }
+{
+    Limits {
+        lo: difference(lo, SUM_LIMIT),
+        end: difference(hi, SUM_LIMIT - 1),
+    }
+}
+
+// The largest of the counts that a window with this ceiling leaves; without ceilings it stays.
+fn lowered(hi: u64, ceiling: u32, unlimited: bool, rest: u64) -> u64
+    requires { ⌜ rest ≤ sumLimit ⌝ }
+    ensures { λ r. ⌜ r ≡ loweredTo unlimited hi ceiling rest ⌝ }
 {
     if unlimited {
-        return end;
+        return hi;
     }
-    smaller(end, difference(ceiling as u64 + 1, sum))
+    smaller(hi, ceiling as u64 + rest)
+}
+
+// That which two windows leave: `rest` is the longer one's, and `count` the tick that the other does not have.
+fn lowered_twice(hi: u64, one: u32, other: u32, count: u32, rest: u64, unlimited: bool) -> u64
+    requires { ⌜ rest ≤ sumLimit ⌝ }
+    ensures { λ r. ⌜ r ≡ loweredTo unlimited (loweredTo unlimited hi one (rest + count)) other rest ⌝ }
+{
+    if unlimited {
+        return hi;
+    }
+    smaller(hi, rest + smaller(one as u64 + count as u64, other as u64))
+}
+
+// The smallest of the counts, by the leasts of two such windows.
+fn raised_twice(lo: u64, one: u32, other: u32, count: u32, rest: u64) -> u64
+    requires { ⌜ rest ≤ sumLimit ⌝ }
+    ensures { λ r. ⌜ r ≡ max (max lo (one + (rest + count))) (other + rest) ⌝ }
+{
+    larger(lo, rest + larger(one as u64 + count as u64, other as u64))
 }
 
 fn larger(a: u64, b: u64) -> u64
@@ -292,7 +360,6 @@ fn smaller(a: u64, b: u64) -> u64
     if a < b { a } else { b }
 }
 
-// Cut off at 0: a ceiling that the ticks before have passed leaves room for no count, and a least that they have asks for none.
 fn difference(a: u64, b: u64) -> u64
     ensures { λ r. ⌜ r ≡ a - b ⌝ }
 {
