@@ -1,6 +1,7 @@
 -- Laws over plain variables that the functions' proofs cite.
 -- Assumes nothing.
-use Rattle.laws.proofs.Base.{ℕ, zero, suc, _≤_, _<_, _≡_, ap, Bool, true, false, List, _↔_, arith, length, getD}
+use Rattle.laws.proofs.Base.{ℕ, zero, suc, _+_, _≤_, _<_, _≡_, ap, Bool, true, false, List, _↔_, arith, below-more, length, getD}
+use lib.Bits.{bitOr, or-add-and, and-le-l, and-le-r}
 use Rattle.laws.specs.Tests.{Tells}
 use Rattle.laws.proofs.Tests.{tells-same}
 use Rattle.curves.specs.Pairs.{figure, FiguresWithin}
@@ -23,6 +24,19 @@ within-told n us i b e t = tells-same b (there, back) t
 
     back : FiguresWithin n us → (k : ℕ) → k < i → Within n us k
     back h k l = h (suc k) (omega arith) (omega arith)
+
+-- ---- bits that are joined
+-- A number is not above its bits joined with others.
+pub joined-turn : (us : List ℕ) (i n : ℕ) → ((k : ℕ) → k < i → Within n us k) → (k : ℕ) → k < i + 1
+    → Within (bitOr n (getD us i 0)) us k
+joined-turn us i n h =
+    let x = getD us i 0 in
+    let e = or-add-and n x in
+    below-more (Within (bitOr n x) us) i (λ k l. omega (arith, h k l, and-le-r n x)) (omega (arith, and-le-l n x))
+
+-- What is within a number is within a larger one.
+pub within-larger : (n m : ℕ) (us : List ℕ) → n ≤ m → FiguresWithin n us → FiguresWithin m us
+within-larger n m us l h d u v = omega (arith, h d u v)
 
 -- ---- the figures of two lists and a mark
 pub told-unlimited : (n : ℕ) (us ls : List ℕ) (b r : Bool) → b ≡ true → Tells r (FiguresWithin n ls)

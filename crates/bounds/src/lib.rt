@@ -60,8 +60,32 @@ pub fn within_limit(figures: &[u32]) -> bool
     within(figures, FIGURE_LIMIT)
 }
 
-// Whether no figure of a list is above a limit. Without an early way out the compiler can take several figures a turn.
+// Whether no figure of a list is above a limit. Where the bits of all of them joined are not, none is, and joining takes the processor an
+// instruction for four figures. Only else they are compared, one by one.
 fn within(figures: &[u32], limit: u32) -> bool
+    ensures { λ r. ⌜ Tells r (FiguresWithin limit (now (figures .entry))) ⌝ }
+{
+    if joined(figures) <= limit {
+        return true;
+    }
+    each_within(figures, limit)
+}
+
+// The bits that some figure has: no figure is above that number.
+fn joined(figures: &[u32]) -> u32
+    ensures { λ r. ⌜ FiguresWithin r (now (figures .entry)) ⌝ }
+{
+    let mut bits = 0;
+    let mut i = 0;
+    while i < figures.len() {
+        bits = bits | figures[i];
+        i += 1;
+    }
+    bits
+}
+
+// Each figure against the limit.
+fn each_within(figures: &[u32], limit: u32) -> bool
     ensures { λ r. ⌜ Tells r (FiguresWithin limit (now (figures .entry))) ⌝ }
 {
     let mut within = true;

@@ -1,18 +1,19 @@
--- Laws over plain variables for the two loops over the windows that end at a tick: what a turn of either keeps, the verdict at each way out
--- of the judge's, and the smallest margin, which the other finds.
+-- Laws over plain variables for the loops over the windows that end at a tick: what a turn of each keeps, the verdict at each way out of
+-- the judge's, the smallest margin, which another finds, and whether all windows keep their figures, which a third tells.
 -- Assumes nothing.
 use Rattle.laws.proofs.Base.{ℕ, suc, _+_, _-_, _*_, _≤_, _<_, _≡_, refl, sym, ap, subst, Bool, true, false, _&&_, List, decLt, add-one}
-use Rattle.laws.proofs.Base.{ltb, arith, length, getD}
+use Rattle.laws.proofs.Base.{_↔_, ltb, cond, arith, length, getD}
 use mathlib.Core.Bool.{not}
+use lib.Dec as dec
 use borrow.Author.Tests.{ltb-true, ltb-false}
 use lib.IntN.{ℤ, pos, _-ℤ_}
-use lib.Signed.{_≤ℤ_, _<ℤ_, leZ, clashℤ}
+use lib.Signed.{_≤ℤ_, _<ℤ_, leZ, ltZ, ltZ-yes, ltZ-no, clashℤ}
 use Rattle.laws.proofs.Whole.{le-parts, parts-le, minus-parts}
 use Rattle.curves.specs.Streams.{countLimit}
-use Rattle.curves.specs.Pairs.{Pair, figure}
+use Rattle.curves.specs.Pairs.{Pair, pairOf, figure}
 use Rattle.curves.specs.Unlimited.{AnyPair, withMark, curvesOf}
 use Rattle.curves.specs.Conformance.{TooMany, TooFew, Inside}
-use Rattle.curves.specs.Ticks.{then, last, Judged, Verdict, passed, tooMany, tooFew, Right}
+use Rattle.curves.specs.Ticks.{then, last, Judged, Keeps, Verdict, passed, tooMany, tooFew, Right}
 use Rattle.curves.specs.Margins.{Margin, Tightest}
 use Rattle.curves.specs.Questions.{result}
 use Rattle.curves.proofs.Highest.{highest-at}
@@ -22,8 +23,9 @@ use Rattle.curves.proofs.Margins.{left-between, below-between, marginAt, Tighte
 use Rattle.curves.proofs.Margins.{tightest-all}
 use Rattle.history.proofs.Slicing.{judged-next}
 use Rattle.history.specs.Steps.{Slices, viewWith}
+use Rattle.monitor.specs.declared.windows.Margin as declared
 use Rattle.monitor.specs.Monitoring.{judged, verdictOn}
-use Rattle.monitor.specs.Steps.{marginWith}
+use Rattle.monitor.specs.Steps.{marginAs, tighterOf, marginWith}
 
 -- ---- the margin of a window
 -- The difference from the ceiling, where there is one and it is not the larger; else the one from the least.
@@ -93,6 +95,12 @@ module _ (us ls : List ℕ) (d s : ℕ) where
         ],
       )
 
+-- The sum keeps the figures of a pair with ceilings.
+pub inside-figures : (us ls : List ℕ) (d s : ℕ) → ((getD ls d 0 ≤ s) × (s ≤ getD us d 0)) ↔ Inside (pairOf us ls) (suc d) s
+unfolding figure
+inside-figures us ls d s =
+    ((λ h. ((λ q. omega (arith, h .1)), (λ q. omega (arith, h .0)))), (λ i. (omega (arith, i .1), omega (arith, i .0))))
+
 module _ (us ls : List ℕ) (b : Bool) (xs : List ℕ) (count : ℕ) where
   abbrev pub p : AnyPair
   p = withMark us ls b
@@ -144,11 +152,22 @@ module _ (us ls : List ℕ) (b : Bool) (xs : List ℕ) (count : ℕ) where
     none-longer : length xs ≤ d → (e : ℕ) → Judged curves ys e → e ≤ d + 1
     none-longer l e j = let b : e ≤ length ys = j .begun in omega (arith, length-then xs count)
 
-    -- ---- judging: the windows of up to d ticks keep their figures
+    -- ---- the windows of up to d ticks keep their figures
+    -- Where that of d + 1 ticks does, those of up to so many do; and all, where there is no tick before it. If all do, it does.
+    pub kept-here : KeptTo curves ys d → Inside curves (suc d) s → KeptTo curves ys (d + 1)
+    kept-here K i = rw (add-one d) (kept-more curves ys d K (λ j. rw window i))
+
+    pub all-kept : length xs ≤ d → KeptTo curves ys (d + 1) → Keeps curves ys
+    all-kept l K e j = K e (none-longer l e j) j
+
+    pub kept-at : Keeps curves ys → Inside curves (suc d) s
+    kept-at K = rw window at (K (suc d) is-judged)
+
+    -- ---- judging
     module _ (small : s ≤ (d + 1) * countLimit) (K : KeptTo curves ys d) where
       -- The window of d + 1 ticks keeps its figures, too.
       pub one-more : pos 0 ≤ℤ here → KeptTo curves ys (d + 1)
-      one-more h = rw (add-one d) (kept-more curves ys d K (λ j. rw window (inside-with us ls d s b wide small h)))
+      one-more h = kept-here K (inside-with us ls d s b wide small h)
 
       -- The ways out: it is outside, or there is no tick before it.
       pub found-many : above b (getD us d 0) s ≡ true → IsAnswered (tooMany (d + 1))
@@ -163,22 +182,30 @@ module _ (us ls : List ℕ) (b : Bool) (xs : List ℕ) (count : ℕ) where
           rw (add-one d) (right-found (tooFew (suc d)) (shortest curves ys d K is-judged (λ i. i .1 few), most, few))
 
       pub found-none : pos 0 ≤ℤ here → length xs ≤ d → IsAnswered passed
-      found-none h l =
-          right-found passed (λ e j. one-more h e (none-longer l e j) j)
+      found-none h l = right-found passed (all-kept l (one-more h))
 
     -- ---- the smallest margin, over the windows of up to d + 1 ticks
     abbrev pub hereOf : Margin
     hereOf = record { value = here; window = d + 1 }
 
     -- It takes the place of the smallest over the shorter ones where it is smaller, and else that stays.
-    pub tightest-here : (m : Margin) → TightestTo p ys d m → here <ℤ m .value → TightestTo p ys (d + 1) hereOf
+    tightest-here : (m : Margin) → TightestTo p ys d m → here <ℤ m .value → TightestTo p ys (d + 1) hereOf
     tightest-here m T l =
         rw (add-one d)
         (subst (λ z. TightestTo p ys (suc d) (record { value = z; window = suc d })) margin-is
         (tightest-new p ys d m T is-judged (subst (λ z. z <ℤ m .value) (sym margin-is) l)))
 
-    pub tightest-stays : (m : Margin) → TightestTo p ys d m → m .value ≤ℤ here → TightestTo p ys (d + 1) m
+    tightest-stays : (m : Margin) → TightestTo p ys d m → m .value ≤ℤ here → TightestTo p ys (d + 1) m
     tightest-stays m T l = rw (add-one d) (tightest-kept p ys d m T (λ j. subst (λ z. m .value ≤ℤ z) (sym margin-is) l))
+
+    pub tightest-turn : (m r : declared.Margin) (z : ℤ) (w : ℕ) → TightestTo p ys d (marginAs m) → z ≡ here → w ≡ d + 1
+        → r ≡ tighterOf m z w → TightestTo p ys (d + 1) (marginAs r)
+    tightest-turn m r z w T e f is = rw (is, e, f) (go (ltZ here (m .value)) refl)
+      where
+        go : (t : Bool) → ltZ here (m .value) ≡ t
+            → TightestTo p ys (d + 1) (marginAs (cond t (record { value = here; window = d + 1 }) m))
+        go true t = tightest-here (marginAs m) T (ltZ-yes (subst dec.T (sym t) tt))
+        go false t = tightest-stays (marginAs m) T (ltZ-no (subst (λ b. dec.T (not b)) (sym t) tt))
 
     -- Where there is no tick before it, it is the smallest of all.
     pub tightest-ends : (m : Margin) → length xs ≤ d → TightestTo p ys (d + 1) m → Tightest p ys m

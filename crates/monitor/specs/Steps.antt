@@ -1,18 +1,19 @@
 -- What the private functions of this crate promise each other. No public promise cites anything of it.
-use Prim.Native.Nat.{ℕ, _-_, _*_, _≤_}
+use Prim.Native.Nat.{ℕ, zero, suc, _+_, _-_, _*_, _≤_}
 use mathlib.Core.Path.{_≡_}
 use mathlib.Core.Bool.{Bool, true, false, cond}
 use mathlib.Core.List.{List, _++_}
-use lib.Dec.{ltb}
+use mathlib.Core.Logic.{_⊎_}
 use lib.IntN.{ℤ, pos, _-ℤ_}
+use lib.Signed.{ltZ}
 use lib.ListN.{length, take, drop}
 use Rattle.curves.specs.Streams.{countLimit}
-use Rattle.curves.specs.Pairs.{Pair, horizon, first}
+use Rattle.curves.specs.Pairs.{Pair, pairOf, horizon, first}
 use Rattle.curves.specs.Unlimited.{AnyPair, curvesOf}
-use Rattle.curves.specs.Ticks.{then}
+use Rattle.curves.specs.Ticks.{then, last, Keeps}
 use Rattle.curves.specs.Margins.{marginBetween, Margin, Tightest}
 use Rattle.curves.specs.Questions.{result}
-use Rattle.bounds.specs.Bounds.{maxHorizon, Bounded}
+use Rattle.bounds.specs.Bounds.{maxHorizon}
 use Rattle.bounds.specs.declared.Asked.{Asked}
 use Rattle.bounds.specs.declared.Asked.the-variants as asked
 use Rattle.lists.specs.Pushing.{Pushed}
@@ -20,7 +21,8 @@ use Rattle.closure.specs.declared.Closing.{Closing}
 use Rattle.closure.specs.declared.Closing.the-variants as closing
 use Rattle.closure.specs.Theorems.{closureOf, room}
 use Rattle.history.specs.declared.History.{History}
-use Rattle.history.specs.States.{View, entries}
+use Rattle.history.specs.States.{View, entries, viewOf, Legal}
+use Rattle.history.specs.Steps.{viewWith}
 use Rattle.monitor.specs.declared.Monitor.{Monitor}
 use Rattle.monitor.specs.declared.MonitorOpening.{MonitorOpening}
 use Rattle.monitor.specs.declared.MonitorOpening.the-variants as opening
@@ -29,7 +31,7 @@ use Rattle.monitor.specs.declared.Verdict.the-variants.{Passed, TooMany,
 use Rattle.monitor.specs.declared.Judgement.{Judgement}
 use Rattle.monitor.specs.declared.windows.Finding.{Finding}
 use Rattle.monitor.specs.declared.windows.Margin as declared
-use Rattle.monitor.specs.Monitoring.{MonitorView, monitorView, closedIn, monitorOf, rulingOn, judging}
+use Rattle.monitor.specs.Monitoring.{MonitorView, closedIn, monitorOf, verdictOn, judged, judging}
 use Rattle.monitor.specs.Margins.{carried}
 use Rattle.monitor.specs.Opening.{monitorOpening, zeroMonitor}
 use Rattle.monitor.specs.Answers.{monitorOpeningReply, verdictReply}
@@ -64,32 +66,79 @@ begunAs opening.LowerLength h us ls = zeroMonitor
 begunAs opening.FigureLimit h us ls = zeroMonitor
 begunAs opening.NoClosure h us ls = zeroMonitor
 
--- ---- question 12
--- What it asks of the closed figures, by the arrays that hold them.
-abbrev pub ClosedWithin : ℕ → Bool → List ℕ → List ℕ → Type 0
-ClosedWithin h true us ls = Unit {0}
-ClosedWithin h false us ls = Bounded (entries h us) × Bounded (entries h ls)
-
 -- ---- what is found of a tick
 abbrev pub marginAs : declared.Margin → Margin
 marginAs m = record { value = m .value; window = m .window }
 
+-- Whether a tick with a verdict passes.
+abbrev pub passesAs : Verdict → Bool
+passesAs Passed = true
+passesAs (TooMany d) = false
+passesAs (TooFew d) = false
+passesAs Lost = false
+passesAs AlreadyFailed = false
+passesAs BadState = false
+
 -- Where no window is judged.
 abbrev pub unjudgedAs : Verdict → Finding
-unjudgedAs v = record { verdict = v; margin = record { value = pos 0; window = 0 } }
+unjudgedAs v = record { verdict = v; margin = record { value = pos 0; window = 0 }; passes = passesAs v }
+
+-- The verdict before any figures are looked at, by the failed mark.
+abbrev pub atFirst : Bool → Verdict
+atFirst true = AlreadyFailed
+atFirst false = Passed
 
 pub record FoundOf (w : MonitorView) (x : ℕ) (r : Finding) : Type 0 where
   pub answer : verdictReply (r .verdict) ≡ judging w x
   pub margin : marginAs (r .margin) ≡ carried w x
+  pub passes : r .passes ≡ passesAs (r .verdict)
 
 -- With the next state.
 abbrev pub judgementOf : Finding → Monitor → Judgement
 judgementOf r next = record { verdict = r .verdict; margin = r .margin .value; window = r .margin .window; next = next }
 
--- By the figures of a view, as given, and by closed ones.
-pub record RuledOf (v : View) (q : Pair) (x : ℕ) (r : Finding) : Type 0 where
-  pub answer : verdictReply (r .verdict) ≡ result (rulingOn (monitorView v q false) x)
+-- By the figures of a view.
+pub record MeasuredOf (v : View) (x : ℕ) (r : Finding) : Type 0 where
+  pub answer : verdictReply (r .verdict) ≡ result (judged (verdictOn v x))
   pub margin : Tightest (v .pair) (then (v .held) x) (marginAs (r .margin))
+  pub passes : r .passes ≡ passesAs (r .verdict)
+
+-- The same, but that the stream is lost.
+abbrev pub lostAs : Finding → Finding
+lostAs r = record { verdict = Lost; margin = r .margin; passes = false }
+
+-- A tick that passes by figures that were looked at before is lost where it does not keep those of p.
+abbrev pub KeptOrLost : Finding → Pair → List ℕ → Finding → Type 0
+KeptOrLost earlier p ys r = (Keeps p ys × (r ≡ earlier)) ⊎ ((¬ Keeps p ys) × (r ≡ lostAs earlier))
+
+-- Figures and their mark after others, which found `earlier`: they count where the tick passes by those. While its margin has no
+-- window, there are none before them.
+abbrev pub RuledWhere : Bool → ℕ → Finding → List ℕ → List ℕ → Bool → List ℕ → ℕ → Finding → Type 0
+RuledWhere false w earlier us ls b xs x r = r ≡ earlier
+RuledWhere true zero earlier us ls b xs x r = MeasuredOf (viewWith us ls b xs) x r
+RuledWhere true (suc w) earlier us ls b xs x r = KeptOrLost earlier (pairOf us ls) (then xs x) r
+
+abbrev pub RuledAfter : Finding → List ℕ → List ℕ → Bool → List ℕ → ℕ → Finding → Type 0
+RuledAfter earlier us ls b xs x r = RuledWhere (earlier .passes) (earlier .margin .window) earlier us ls b xs x r
+
+-- The same of the arrays of a history, with question 12.
+pub record ExaminedAfter (earlier : Finding) (h : History) (x : ℕ) (r : Finding) : Type 0 where
+  pub refused : ¬ Legal (viewOf h) → r ≡ unjudgedAs BadState
+  pub ruled : Legal (viewOf h)
+      → RuledAfter earlier (entries (h .horizon) (h .upper)) (entries (h .horizon) (h .lower)) (h .unlimited)
+      (entries (h .held) (h .ticks)) x r
+
+-- A count fits 32 bits with as many of the ticks before it as there are in a window, up to n.
+abbrev pub FitTo : ℕ → List ℕ → ℕ → Type 0
+FitTo n xs x = (d : ℕ) → d ≤ n → last xs d + x ≤ countLimit
+
+-- Where a tick passes by other figures, which have ceilings, with all of them.
+abbrev pub SumsFit : Finding → List ℕ → ℕ → Type 0
+SumsFit earlier xs x = earlier .passes ≡ true → 1 ≤ earlier .margin .window → FitTo (length xs) xs x
+
+-- The smaller of a margin and that of another window, the first where they are equal.
+abbrev pub tighterOf : declared.Margin → ℤ → ℕ → declared.Margin
+tighterOf m z w = cond (ltZ z (m .value)) (record { value = z; window = w }) m
 
 -- The margin of a sum x under a ceiling u and over a least l, by the pair's mark.
 abbrev pub marginWith : Bool → ℕ → ℕ → ℕ → ℤ
@@ -100,15 +149,11 @@ marginWith false u l x = marginBetween u l x
 abbrev pub windowLimit : ℕ
 windowLimit = maxHorizon * countLimit
 
--- ---- the held ticks after a verdict
--- The horizon matters where a tick is to be added.
-abbrev pub HoldsWhere : Verdict → ℕ → List ℕ → Type 0
-HoldsWhere Passed h found = (1 ≤ h) × (h ≤ length found)
-HoldsWhere (TooMany d) h found = Unit {0}
-HoldsWhere (TooFew d) h found = Unit {0}
-HoldsWhere Lost h found = Unit {0}
-HoldsWhere AlreadyFailed h found = Unit {0}
-HoldsWhere BadState h found = Unit {0}
+-- ---- the held ticks after a tick
+-- The horizon matters where it is to be added.
+abbrev pub HoldsWhere : Bool → ℕ → List ℕ → Type 0
+HoldsWhere true h found = (1 ≤ h) × (h ≤ length found)
+HoldsWhere false h found = Unit {0}
 
 -- The tick is put into places of the array, one fewer than the horizon h, of which k are held; n are held then.
 abbrev pub HeldMore : ℕ → ℕ → ℕ → List ℕ → List ℕ → ℕ → Type 0
@@ -117,13 +162,9 @@ HeldMore h k x found left n = (front : List ℕ) × Pushed (take (h - 1) found) 
 abbrev pub HeldAsFound : ℕ → List ℕ → List ℕ → ℕ → Type 0
 HeldAsFound k found left n = (left ≡ found) × (n ≡ k)
 
-abbrev pub Held : Verdict → ℕ → ℕ → ℕ → List ℕ → List ℕ → ℕ → Type 0
-Held Passed h k x found left n = HeldMore h k x found left n
-Held (TooMany d) h k x found left n = HeldAsFound k found left n
-Held (TooFew d) h k x found left n = HeldAsFound k found left n
-Held Lost h k x found left n = HeldAsFound k found left n
-Held AlreadyFailed h k x found left n = HeldAsFound k found left n
-Held BadState h k x found left n = HeldAsFound k found left n
+abbrev pub Held : Bool → ℕ → ℕ → ℕ → List ℕ → List ℕ → ℕ → Type 0
+Held true h k x found left n = HeldMore h k x found left n
+Held false h k x found left n = HeldAsFound k found left n
 
 -- ---- the mark after a verdict
 abbrev pub markAfter : Verdict → Bool → Bool

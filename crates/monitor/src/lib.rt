@@ -8,14 +8,12 @@ use crate::windows::Margin;
 use history::History;
 use history::Legality;
 ghost use mathlib.Core.Path.{_≡_};
-ghost use Prim.Native.Nat.{_≤_};
-ghost use Rattle.laws.specs.Tests.{Tells};
 ghost use Rattle.curves.specs.Unlimited.{withMark};
-ghost use Rattle.bounds.specs.Bounds.{maxHorizon};
-ghost use Rattle.history.specs.States.{historyOf};
+ghost use Rattle.history.specs.States.{entries, historyOf};
 ghost use Rattle.monitor.specs.Monitoring.{monitorOf, monitorViewOf};
 ghost use Rattle.monitor.specs.Promises.{MonitorOpened, MonitorTicked};
-ghost use Rattle.monitor.specs.Steps.{judgementOf, FoundOf, unjudgedAs, ClosedWithin, HoldsWhere, Held, markAfter};
+ghost use Rattle.monitor.specs.Steps.{judgementOf, FoundOf, passesAs, unjudgedAs, atFirst, ExaminedAfter, SumsFit};
+ghost use Rattle.monitor.specs.Steps.{HoldsWhere, Held, markAfter};
 
 // The longest horizon.
 const MAX_HORIZON: usize = 256;
@@ -119,8 +117,8 @@ impl Monitor {
             self.failed,
             count,
         );
+        let held = hold(finding.passes, &mut ticks, horizon, history.held, count);
         let verdict = finding.verdict;
-        let held = hold(verdict, &mut ticks, horizon, history.held, count);
         let history = History {
             horizon,
             upper,
@@ -169,26 +167,69 @@ fn examine_tick(
     ensures { λ r. ⌜ FoundOf (monitorViewOf (monitorOf (historyOf horizon (now (upper .entry)) (now (lower .entry)) unlimited
         held (now (ticks .entry))) (now («closed_upper» .entry)) (now («closed_lower» .entry)) failed)) count r ⌝ }
 {
+    let given = examine(
+        unjudged(at_first(failed)),
+        horizon,
+        upper,
+        lower,
+        unlimited,
+        held,
+        ticks,
+        count,
+    );
+    if unlimited {
+        return given;
+    }
+    examine(
+        given,
+        horizon,
+        closed_upper,
+        closed_lower,
+        false,
+        held,
+        ticks,
+        count,
+    )
+}
+
+// The verdict before any figures are looked at.
+fn at_first(failed: bool) -> Verdict
+    ensures { λ r. ⌜ r ≡ atFirst failed ⌝ }
+{
+    if failed {
+        Verdict::AlreadyFailed
+    } else {
+        Verdict::Passed
+    }
+}
+
+// Asks question 12 of figures, and looks at them after others, which found `earlier`. It is called for the figures as given and for
+// the closed ones: so the compiler leaves it one function, which reads the arrays where they are.
+fn examine(
+    earlier: Finding,
+    horizon: usize,
+    upper: &[u32; MAX_HORIZON],
+    lower: &[u32; MAX_HORIZON],
+    unlimited: bool,
+    held: usize,
+    ticks: &[u32; MAX_HORIZON],
+    count: u32,
+) -> Finding
+    requires { ⌜ SumsFit earlier (entries held (now ticks)) count ⌝ }
+    ensures { λ r. ⌜ ExaminedAfter earlier
+        (historyOf horizon (now (upper .entry)) (now (lower .entry)) unlimited held (now (ticks .entry))) count r ⌝ }
+{
     let Legality::Legal = history::ask_legality(horizon, upper, lower, unlimited, held) else {
         return unjudged(Verdict::BadState);
     };
-    if !closed_within(horizon, unlimited, closed_upper, closed_lower) {
-        return unjudged(Verdict::BadState);
-    }
-    if failed {
-        return unjudged(Verdict::AlreadyFailed);
-    }
     let upper_figures: &[u32] = upper;
     let lower_figures: &[u32] = lower;
     let counts: &[u32] = ticks;
-    let closed_upper_figures: &[u32] = closed_upper;
-    let closed_lower_figures: &[u32] = closed_lower;
     windows::rule(
+        earlier,
         &upper_figures[..horizon],
         &lower_figures[..horizon],
         unlimited,
-        &closed_upper_figures[..horizon],
-        &closed_lower_figures[..horizon],
         &counts[..held],
         count,
     )
@@ -202,35 +243,34 @@ fn unjudged(verdict: Verdict) -> Finding
         value: 0,
         window: 0,
     };
-    Finding { verdict, margin }
+    Finding {
+        verdict,
+        margin,
+        passes: passes(verdict),
+    }
 }
 
-// Whether no closed figure up to the horizon is above the limit; without ceilings there is none.
-fn closed_within(
-    horizon: usize,
-    unlimited: bool,
-    closed_upper: &[u32; MAX_HORIZON],
-    closed_lower: &[u32; MAX_HORIZON],
-) -> bool
-    requires { ⌜ horizon ≤ maxHorizon ⌝ }
-    ensures { λ r. ⌜ Tells r (ClosedWithin horizon unlimited (now («closed_upper» .entry)) (now («closed_lower» .entry))) ⌝ }
+fn passes(verdict: Verdict) -> bool
+    ensures { λ r. ⌜ r ≡ passesAs verdict ⌝ }
 {
-    if unlimited {
-        return true;
+    match verdict {
+        Verdict::Passed => true,
+        Verdict::TooMany { window: _ } => false,
+        Verdict::TooFew { window: _ } => false,
+        Verdict::Lost => false,
+        Verdict::AlreadyFailed => false,
+        Verdict::BadState => false,
     }
-    let upper: &[u32] = closed_upper;
-    let lower: &[u32] = closed_lower;
-    bounds::within_limit(&upper[..horizon]) & bounds::within_limit(&lower[..horizon])
 }
 
 // Puts a count that passed behind the held ticks, one fewer than the horizon at most; else nothing changes. Gives back how many are held.
-fn hold(verdict: Verdict, ticks: &mut [u32], horizon: usize, held: usize, count: u32) -> usize
-    requires { ⌜ HoldsWhere verdict horizon (now ticks) ⌝ }
-    ensures { λ r. ⌜ Held verdict horizon held count (now (ticks .entry)) (now (ticks .exit)) r ⌝ }
+fn hold(passes: bool, ticks: &mut [u32], horizon: usize, held: usize, count: u32) -> usize
+    requires { ⌜ HoldsWhere passes horizon (now ticks) ⌝ }
+    ensures { λ r. ⌜ Held passes horizon held count (now (ticks .entry)) (now (ticks .exit)) r ⌝ }
 {
-    let Verdict::Passed = verdict else {
+    if !passes {
         return held;
-    };
+    }
     lists::push(&mut ticks[..horizon - 1], held, count)
 }
 

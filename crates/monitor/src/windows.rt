@@ -3,20 +3,24 @@
 use crate::Verdict;
 ghost use mathlib.Core.Path.{_≡_};
 ghost use Prim.Native.Nat.{_≤_};
+ghost use lib.ListN.{length};
+ghost use Rattle.laws.specs.Tests.{Tells};
 ghost use Rattle.curves.specs.Pairs.{pairOf};
 ghost use Rattle.curves.specs.Unlimited.{withMark};
-ghost use Rattle.curves.specs.Ticks.{then};
+ghost use Rattle.curves.specs.Ticks.{then, Keeps};
 ghost use Rattle.curves.specs.Margins.{Tightest};
 ghost use Rattle.curves.specs.Questions.{result};
 ghost use Rattle.history.specs.Steps.{Slices, viewWith};
-ghost use Rattle.monitor.specs.Monitoring.{closedIn, judged, verdictOn};
+ghost use Rattle.monitor.specs.Monitoring.{judged, verdictOn};
 ghost use Rattle.monitor.specs.Answers.{verdictReply};
-ghost use Rattle.monitor.specs.Steps.{marginAs, RuledOf, marginWith, windowLimit};
+ghost use Rattle.monitor.specs.Steps.{marginAs, MeasuredOf, RuledAfter, SumsFit, FitTo, tighterOf, marginWith, windowLimit};
 
-// What is found of a tick.
+// What is found of a tick. The verdict tells whether it passes; that it stands apart keeps what becomes of a state free of the verdict's
+// cases, for each of which the compiler would otherwise copy it.
 pub(crate) struct Finding {
     pub(crate) verdict: Verdict,
     pub(crate) margin: Margin,
+    pub(crate) passes: bool,
 }
 
 // A margin, and the window that has it.
@@ -25,45 +29,55 @@ pub(crate) struct Margin {
     pub(crate) window: usize,
 }
 
-// Judges by the figures as given; a tick that keeps them is lost where it does not keep the closed ones, which a pair without ceilings
-// does not have. The margin tells whether it keeps the figures as given: only where it does not are these gone through again, for the
-// shortest window outside.
+// Looks at figures after others, which found `earlier`. The first are those as given: no margin has been found, and they give the
+// verdict and the margin. A tick that passes by them is lost where it does not keep the next ones, the closed figures.
 pub(crate) fn rule(
+    earlier: Finding,
     upper: &[u32],
     lower: &[u32],
     unlimited: bool,
-    closed_upper: &[u32],
-    closed_lower: &[u32],
     ticks: &[u32],
     count: u32,
 ) -> Finding
     requires { ⌜ Slices (now upper) (now lower) (now ticks) ⌝ }
-    requires { ⌜ Slices (now «closed_upper») (now «closed_lower») (now ticks) ⌝ }
-    ensures { λ r. ⌜ RuledOf (viewWith (now (upper .entry)) (now (lower .entry)) unlimited (now (ticks .entry)))
-        (closedIn (withMark (now (upper .entry)) (now (lower .entry)) unlimited)
-        (pairOf (now («closed_upper» .entry)) (now («closed_lower» .entry)))) count r ⌝ }
+    requires { ⌜ SumsFit earlier (now ticks) count ⌝ }
+    ensures { λ r. ⌜ RuledAfter earlier (now (upper .entry)) (now (lower .entry)) unlimited (now (ticks .entry)) count r ⌝ }
+{
+    if !earlier.passes {
+        return earlier;
+    }
+    let margin = earlier.margin;
+    if margin.window == 0 {
+        return measure(upper, lower, unlimited, ticks, count);
+    }
+    if keeps(upper, lower, ticks, count) {
+        return earlier;
+    }
+    Finding {
+        verdict: Verdict::Lost,
+        margin,
+        passes: false,
+    }
+}
+
+// The margin tells whether a tick keeps the figures: only where it does not are these gone through again, for the shortest window outside.
+fn measure(upper: &[u32], lower: &[u32], unlimited: bool, ticks: &[u32], count: u32) -> Finding
+    requires { ⌜ Slices (now upper) (now lower) (now ticks) ⌝ }
+    ensures { λ r. ⌜ MeasuredOf (viewWith (now (upper .entry)) (now (lower .entry)) unlimited (now (ticks .entry))) count r ⌝ }
 {
     let margin = find_tightest(upper, lower, unlimited, ticks, count);
     if margin.value < 0 {
         let verdict = judge(upper, lower, unlimited, ticks, count);
-        return Finding { verdict, margin };
-    }
-    if unlimited {
         return Finding {
-            verdict: Verdict::Passed,
+            verdict,
             margin,
+            passes: false,
         };
     }
-    let closed = judge(closed_upper, closed_lower, false, ticks, count);
-    let Verdict::Passed = closed else {
-        return Finding {
-            verdict: Verdict::Lost,
-            margin,
-        };
-    };
     Finding {
-        verdict: closed,
+        verdict: Verdict::Passed,
         margin,
+        passes: true,
     }
 }
 
@@ -93,7 +107,8 @@ fn judge(upper: &[u32], lower: &[u32], unlimited: bool, ticks: &[u32], count: u3
     verdict
 }
 
-// The smallest margin over the same windows. A later one takes its place only where it is smaller, so the window is the shortest.
+// The smallest margin over the same windows, two of them a turn. A later one takes its place only where it is smaller, so the window is the
+// shortest.
 fn find_tightest(upper: &[u32], lower: &[u32], unlimited: bool, ticks: &[u32], count: u32) -> Margin
     requires { ⌜ Slices (now upper) (now lower) (now ticks) ⌝ }
     ensures { λ r. ⌜ Tightest (withMark (now (upper .entry)) (now (lower .entry)) unlimited) (then (now (ticks .entry)) count)
@@ -101,19 +116,41 @@ fn find_tightest(upper: &[u32], lower: &[u32], unlimited: bool, ticks: &[u32], c
 {
     let held = ticks.len();
     let mut sum = count as u64;
-    let mut value = margin_between(upper[0], lower[0], unlimited, sum);
-    let mut window = 1;
+    let value = margin_between(upper[0], lower[0], unlimited, sum);
+    let mut best = Margin { value, window: 1 };
     let mut d = 0;
-    while d < held {
-        sum += ticks[held - 1 - d] as u64;
-        d += 1;
-        let found = margin_between(upper[d], lower[d], unlimited, sum);
-        if found < value {
-            value = found;
-            window = d + 1;
-        }
+    while d + 1 < held {
+        let e = d + 1;
+        let one = sum + ticks[held - 1 - d] as u64;
+        sum = one + ticks[held - 1 - e] as u64;
+        best = tighter(best, upper[e], lower[e], unlimited, one, e + 1);
+        best = tighter(best, upper[e + 1], lower[e + 1], unlimited, sum, e + 2);
+        d = e + 1;
     }
-    Margin { value, window }
+    if held <= d {
+        return best;
+    }
+    let all = sum + ticks[held - 1 - d] as u64;
+    tighter(best, upper[d + 1], lower[d + 1], unlimited, all, d + 2)
+}
+
+// The smaller of a margin and that of another window; the first where they are equal.
+fn tighter(
+    best: Margin,
+    ceiling: u32,
+    least: u32,
+    unlimited: bool,
+    sum: u64,
+    window: usize,
+) -> Margin
+    requires { ⌜ sum ≤ windowLimit ⌝ }
+    ensures { λ r. ⌜ r ≡ tighterOf best (marginWith unlimited ceiling least sum) window ⌝ }
+{
+    let value = margin_between(ceiling, least, unlimited, sum);
+    if value < best.value {
+        return Margin { value, window };
+    }
+    best
 }
 
 // The margin of one window: the smaller of ceiling minus sum and sum minus least, and without ceilings the latter. It is negative where
@@ -130,4 +167,39 @@ fn margin_between(ceiling: u32, least: u32, unlimited: bool, sum: u64) -> i64
     } else {
         below
     }
+}
+
+// Whether every window keeps its figures, two of them a turn. The sums are known to fit 32 bits.
+fn keeps(upper: &[u32], lower: &[u32], ticks: &[u32], count: u32) -> bool
+    requires { ⌜ Slices (now upper) (now lower) (now ticks) ⌝ }
+    requires { ⌜ FitTo (length (now ticks)) (now ticks) count ⌝ }
+    ensures { λ r. ⌜ Tells r (Keeps (pairOf (now (upper .entry)) (now (lower .entry))) (then (now (ticks .entry)) count)) ⌝ }
+{
+    if !inside(upper[0], lower[0], count) {
+        return false;
+    }
+    let held = ticks.len();
+    let mut sum = count;
+    let mut d = 0;
+    while d + 1 < held {
+        let e = d + 1;
+        let one = sum + ticks[held - 1 - d];
+        sum = one + ticks[held - 1 - e];
+        if !(inside(upper[e], lower[e], one) & inside(upper[e + 1], lower[e + 1], sum)) {
+            return false;
+        }
+        d = e + 1;
+    }
+    if held <= d {
+        return true;
+    }
+    let all = sum + ticks[held - 1 - d];
+    inside(upper[d + 1], lower[d + 1], all)
+}
+
+// Whether a sum is from its least to its ceiling.
+fn inside(ceiling: u32, least: u32, sum: u32) -> bool
+    ensures { λ r. ⌜ Tells r ((least ≤ sum) × (sum ≤ ceiling)) ⌝ }
+{
+    (least <= sum) & (sum <= ceiling)
 }

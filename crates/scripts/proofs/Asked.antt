@@ -4,15 +4,14 @@ use Rattle.laws.proofs.Base.{length, take, drop, length-drop, length-take-le}
 use Rattle.laws.specs.Tests.{Tells}
 use Rattle.laws.proofs.Tests.{tells-same, both-told}
 use Rattle.curves.specs.Pairs.{pairOf, horizon}
-use Rattle.curves.specs.Unlimited.{AnyPair, withMark, curvesOf, AllWithin}
-use Rattle.bounds.specs.Bounds.{maxHorizon, figureLimit, Bounded}
+use Rattle.curves.specs.Unlimited.{AnyPair, withMark, curvesOf, alike, AllWithin}
+use Rattle.bounds.specs.Bounds.{maxHorizon, figureLimit, question4, Bounded}
 use Rattle.history.specs.States.{View, entries, viewOf, Legal}
 use Rattle.history.specs.Steps.{Slices, viewWith}
 use Rattle.history.proofs.Histories.{Sizes, horizon-seen, held-seen, legal-sizes}
 use Rattle.monitor.specs.Monitoring.{MonitorView, monitorView, closedIn, monitorViewOf, LegalMonitor}
-use Rattle.monitor.proofs.Ruling.{legal-from-parts, closed-from-legal}
 use Rattle.scripts.specs.Words.{markFrom, word, part, historyFrom, monitorFrom, generatorWords, monitorWords, LegalMonitorWords}
-use Rattle.scripts.specs.Runs.{ClosedWords}
+use Rattle.scripts.specs.Runs.{ClosedWithin, ClosedWords}
 use Rattle.scripts.proofs.Worded.{part-entries, part-length}
 
 -- The slice of h words from k on.
@@ -87,11 +86,25 @@ module _ (ws : List ℕ) (long : length ws ≡ monitorWords) (h≤ : word 0 ws �
       (closedIn (pair-seen ws enough h≤ i)
       (pairOf (seen ws enough 771 (word 0 ws) (omega arith) h≤ i) (seen ws enough 1_027 (word 0 ws) (omega arith) h≤ i))) (sym g i)
 
--- Together.
+-- Together: question 12 asks no more of an unlimited state than of its history.
+module _ (us ls : List ℕ) (h : ℕ) (cus cls : List ℕ) where
+  abbrev Asked : Bool → Type 0
+  Asked b =
+      let p : AnyPair = withMark us ls b in
+      question4 (alike p (closedIn p (pairOf (entries h cus) (entries h cls)))) .asked
+
+  bounded-from : (b : Bool) → question4 (withMark us ls b) .asked → ClosedWithin h b cus cls → Asked b
+  bounded-from false g c = c
+  bounded-from true g c = g
+
+  within-from : (b : Bool) → Asked b → ClosedWithin h b cus cls
+  within-from false a = a
+  within-from true a = tt
+
 pub legal-parts : (ws : List ℕ) → (Legal (viewOf (historyFrom ws)) × ClosedWords ws) ↔ LegalMonitor (monitorViewOf (monitorFrom ws))
 legal-parts ws = (
-  λ p. legal-from-parts (monitorFrom ws) (p .0) (p .1),
-  λ l. (l .given, closed-from-legal (monitorFrom ws) l),
+  λ p. record { given = p .0; bounded = bounded-from _ _ _ _ _ (markFrom (word 1 ws)) (p .0 .figures) (p .1) },
+  λ l. (l .given, within-from _ _ _ _ _ (markFrom (word 1 ws)) (l .bounded)),
 )
 
 -- The slices that are handed on.

@@ -7,11 +7,10 @@ use lib.IntN.{ℤ}
 use lib.ListN.{length, take}
 use Rattle.laws.specs.Writing.{over}
 use Rattle.curves.specs.Ticks.{newest}
-use Rattle.bounds.specs.Bounds.{maxHorizon}
+use Rattle.bounds.specs.Bounds.{maxHorizon, Bounded}
 use Rattle.history.specs.States.{View, entries, viewOf}
 use Rattle.monitor.specs.declared.Monitor.{Monitor}
 use Rattle.monitor.specs.Monitoring.{MonitorView, monitorViewOf}
-use Rattle.monitor.specs.Steps.{ClosedWithin}
 use Rattle.monitor.specs.Calls.{afterTicks, rulings, margins}
 use Rattle.generator.specs.declared.Generator.{Generator}
 use Rattle.generator.specs.Calls.{sendings, afterSendings}
@@ -21,6 +20,10 @@ use Rattle.scripts.specs.Scripts.{marginValues}
 
 -- ---- words
 -- What question 12 asks of a monitor's closed figures, where the pair has ceilings.
+abbrev pub ClosedWithin : ℕ → Bool → List ℕ → List ℕ → Type 0
+ClosedWithin h true us ls = Unit {0}
+ClosedWithin h false us ls = Bounded (entries h us) × Bounded (entries h ls)
+
 abbrev pub ClosedWords : List ℕ → Type 0
 ClosedWords ws = ClosedWithin (word 0 ws) (markFrom (word 1 ws)) (part 771 256 ws) (part 1_027 256 ws)
 

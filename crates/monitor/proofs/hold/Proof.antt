@@ -1,31 +1,31 @@
 -- `monitor::hold` meets its contract: the count goes into one place fewer than the horizon, or nothing changes.
 -- Assumes nothing.
 use Rattle.laws.proofs.Base.{_≤_, sym, subst, arith, needs, length, length-take-le}
+use borrow.Author.Tests.{not-true, not-false}
 use Rattle.monitor.specs.Steps.{HoldsWhere}
 use Rattle.monitor.proofs.Ruling.{held-more, held-as-found}
 use Rattle.monitor.proofs.hold.Statement.{statement}
 use Rattle.monitor.proofs.hold.Tie as tie
 
--- Where the tick has passed: there is a window, and a place for each.
-abbrev start : tie.After-enum-told → tie.Start
-start t = t .before .before .before
-
-places : (t : tie.After-enum-told) → (1 ≤ start t .args .horizon) × (start t .args .horizon ≤ length (start t .args .ticks .now))
-places t = subst (λ v. HoldsWhere v (start t .args .horizon) (start t .args .ticks .now)) (t .enum-told .given .1) (start t .pre)
+-- Where the tick passes: there is a window, and a place for each.
+places : (e : tie.Else1) → let s = e .before .before in (1 ≤ s .args .horizon) × (s .args .horizon ≤ length (s .args .ticks .now))
+places e =
+    let s = e .before .before in
+    subst (λ t. HoldsWhere t (s .args .horizon) (s .args .ticks .now)) (not-false (s .args .passes) (e .if1 .left)) (s .pre)
 
 returns : tie.Need-returns
-returns c = held-as-found (c .before .before .args .verdict) _ _ _ _ (c .match .keys2)
+returns c = let s = c .before .before in held-as-found (s .args .passes) _ _ _ _ (not-true (s .args .passes) (c .if1 .taken))
 
 returns-2 : tie.Need-returns-2
 returns-2 c =
-    let told = c .before .before .before .before in
-    held-more (start told .args .verdict) _ _ _ _ _ _ (told .enum-told .given .1) (c .before .before .push .ensures)
+    let e = c .before .before .before .before in
+    let s = e .before .before in
+    held-more (s .args .passes) _ _ _ _ _ _ (not-false (s .args .passes) (e .if1 .left)) (c .before .before .push .ensures)
 
 pub hold-spec : {M : Type 1} → statement M
 hold-spec =
     tie.close
     (tie.spec
-    (λ c. search needs)
     returns
     (λ c. omega (arith, places c))
     (λ c. omega (arith, places c))

@@ -18,7 +18,8 @@ hold-requires c κs =
     let f = c .before in
     let s = start f in
     let found = f .examine-tick in
-    holds-where (s .args .self) (s .args .count) (found .result .verdict) (arrays s) (found .ensures .answer)
+    holds-where (s .args .self) (s .args .count) (found .result .verdict) (found .result .passes) (arrays s) (found .ensures .answer)
+    (found .ensures .passes)
 
 returns : tie.Need-returns
 returns c =
@@ -29,8 +30,8 @@ returns c =
       answer = found .ensures .answer;
       margin = found .ensures .margin;
       next =
-          next-is (s .args .self) (s .args .count) (arrays s) _ _ (found .result .verdict) (c .before .mark .result)
-          (found .ensures .answer) (c .before .before .before .hold .ensures) (c .before .mark .ensures);
+          next-is (s .args .self) (s .args .count) (arrays s) _ _ (found .result .verdict) (found .result .passes) (c .before .mark .result)
+          (found .ensures .answer) (found .ensures .passes) (c .before .before .before .hold .ensures) (c .before .mark .ensures);
     })
 
 pub tick-spec : {M : Type 1} → statement M
