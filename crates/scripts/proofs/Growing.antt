@@ -20,7 +20,7 @@ use Rattle.scripts.proofs.Adding.{filled-entry}
 signed-le : (a b : ℕ) → a < 2 ^ 31 → b < 2 ^ 31 → leZ (toZ w32 a) (toZ w32 b) ≡ leb a b
 signed-le a b h k = λ i. leZ (toZ-pos w32 {n = a} h i) (toZ-pos w32 {n = b} k i)
 
-pub inside-told : (l s u : ℕ) → l ≤ sumLimit → s ≤ sumLimit + sumLimit → u ≤ sumLimit
+pub inside-told : (l s u : ℕ) → l ≤ sumLimit → s ≤ sumLimit + sumLimit + sumLimit → u ≤ sumLimit
     → Tells (leZ (toZ w32 l) (toZ w32 s) && leZ (toZ w32 s) (toZ w32 u)) ((l ≤ s) × (s ≤ u))
 inside-told l s u h k m =
     subst (λ t. Tells t ((l ≤ s) × (s ≤ u)))

@@ -1,16 +1,16 @@
 -- Laws over plain variables for the loop over the counts: what it knows before each, and what a count that keeps the figures adds to it.
 -- Assumes nothing.
-use Rattle.laws.proofs.Base.{ℕ, zero, suc, _+_, _-_, _≤_, _<_, _≡_, sym, ap, _∙_, subst, Bool, false, List, _++_}
-use Rattle.laws.proofs.Base.{append-assoc, append-nil, add-one, below-more, arith}
+use Rattle.laws.proofs.Base.{ℕ, zero, suc, _+_, _-_, _≤_, _<_, _≡_, refl, sym, ap, _∙_, subst, Bool, true, false, List, _++_}
+use Rattle.laws.proofs.Base.{append-assoc, append-nil, add-one, below-more, decLt, drop-of-length-le, arith}
 use Rattle.laws.proofs.Base.{length, getD, take, drop, length-append, length-drop, getD-drop, length-take-le, take-suc, take-all}
 use Rattle.laws.proofs.Base.{List·getD-append}
 use mathlib.Core.Bool.{not}
-use lib.Seq.{getD-append-add}
+use lib.Seq.{getD-append-add, take-add}
 use borrow.Rule.Slice.PartMut.{putMid, postOf, same-len-mid}
 use Rattle.laws.proofs.Tests.{told-yes}
 use Rattle.curves.specs.Ticks.{then, last}
 use Rattle.curves.proofs.NextTick.{last-none, length-then, last-next}
-use Rattle.scripts.specs.Steps.{sumLimit, KeptSums, Kept, LaterKept, Placed, InsideAt, Grown, KeepsTurned}
+use Rattle.scripts.specs.Steps.{sumLimit, KeptSums, Kept, LaterKept, Placed, InsideAt, Grown, KeepsTurned, KeepFirst, KeepOn}
 
 -- ---- parts of a list
 -- The part from the place s on: its entries, and how many there are.
@@ -31,6 +31,13 @@ part-kept s us k i l =
     let l′ : s + i < length us = omega (arith, part-length s us) in
     omega (arith, part-at s us i (s + i) (omega arith), k (s + i) l′)
 
+-- From the first place on it is the list itself, and so is what is put there.
+part-none : (us : List ℕ) → part 0 us ≡ us
+part-none us = part-whole 0 us
+
+put-whole : (us vs : List ℕ) → length vs ≡ length us → putMid 0 (length us - 0) us vs ≡ vs
+put-whole us vs e = ap (λ ws. vs ++ ws) (drop-of-length-le us {i = length us - 0} (omega arith)) ∙ append-nil vs
+
 -- Other sums, as many.
 pub placed-same : (found sums ceilings leasts : List ℕ) → length sums ≡ length found → Placed found ceilings leasts
     → Placed sums ceilings leasts
@@ -41,6 +48,17 @@ placed-same found sums ceilings leasts e P =
       ceilings-kept = P .ceilings-kept;
       leasts-kept = P .leasts-kept;
     }
+
+-- Sums that have grown and are within are none above the limit.
+pub later-grown : (sums ceilings leasts : List ℕ) (x : ℕ) (grown : List ℕ) → Placed sums ceilings leasts → LaterKept sums
+    → Grown sums ceilings leasts x grown true → LaterKept grown
+later-grown sums ceilings leasts x grown P K G i l =
+    elim (decLt (i + 1) (length ceilings)) [
+      | yes h ↦ omega (arith, G .told (i + 1) h .1, P .ceilings-kept (i + 1) h)
+      | no h ↦
+          let e : length ceilings ≡ i + 1 = omega (arith, G .whole, P .sums-more) in
+          omega (arith, rw e at (G .none), K i (omega (arith, G .whole)))
+    ]
 
 -- ---- one tick
 -- The sums of up to k of the ticks xs are kept; the place of the window of one more is `first`.
@@ -185,8 +203,8 @@ module _ (ceilings leasts xs counts : List ℕ) where
         keeps = λ k l. absurd (omega arith);
       }
 
-  module _ (fewer : length xs < length ceilings) {sums : List ℕ} {first i : ℕ} (p : Passing sums first i)
-      (P : Placed sums ceilings leasts) (l : i < length counts) where
+  module _ (some : 1 ≤ length ceilings) {sums : List ℕ} {first i : ℕ} (p : Passing sums first i) (P : Placed sums ceilings leasts)
+      (l : i < length counts) where
     here : first + suc (behind first) ≡ length ceilings
     here = omega (arith, p .place)
 
@@ -226,3 +244,50 @@ module _ (ceilings leasts xs counts : List ℕ) where
         where
           on : then (before i) (getD counts i 0) ≡ before (i + 1)
           on = before-next i l ∙ ap before (sym (add-one i))
+
+  -- ---- all windows are judged: what grows are the sums themselves
+  pub passing-on : (sums : List ℕ) → length ceilings ≤ length xs + 1 → KeptSums xs (length ceilings - 1) sums → Passing sums 0 0
+  passing-on sums long K =
+      record {
+        place = omega arith;
+        sums-kept = kept-to xs (before 0) sums (length ceilings - 1) _ (sym (append-nil xs)) (omega arith) K;
+        keeps = λ k l. absurd (omega arith);
+      }
+
+  pub passing-grown : 1 ≤ length ceilings → (sums : List ℕ) (i : ℕ) → Passing sums 0 i → Placed sums ceilings leasts → i < length counts
+      → (grown : List ℕ) → Grown sums ceilings leasts (getD counts i 0) grown true → Passing grown 0 (i + 1)
+  passing-grown some sums i p P l grown G =
+      subst (λ us. Passing us 0 (i + 1)) (put-whole sums grown (G .whole))
+      (passing-more some p P l grown true (rw (part-none sums, part-none ceilings, part-none leasts) G) refl 0 refl)
+
+  -- From there on the rest of the counts is gone through by the sums alone.
+  module _ (sums : List ℕ) (i : ℕ) (p : Passing sums 0 i) where
+    pub passing-kept : 1 ≤ length ceilings → Placed sums ceilings leasts → i < length counts → LaterKept sums
+    passing-kept some P l = subst LaterKept (part-none sums) (passing-later some p P l)
+
+    -- It is what the counts behind i have, which are behind i of the counts.
+    rest-is : (k : ℕ) → before i ++ take (suc k) (part i counts) ≡ before (suc (i + k))
+    rest-is k =
+        let e : i + suc k ≡ suc (i + k) = omega arith in
+        ap (λ ys. before i ++ take (suc k) ys) (part-whole i counts)
+        ∙ append-assoc xs (take i counts) (take (suc k) (drop i counts))
+        ∙ ap (λ ys. xs ++ ys) (sym (take-add i (suc k) counts) ∙ ap (λ n. take n counts) e)
+
+    pub passing-rest : i < length counts → (n : ℕ) → KeepOn ceilings leasts sums (part i counts) n
+        → KeepFirst ceilings leasts xs counts (i + n)
+    passing-rest l n on = (omega (arith, rest .0, part-length i counts), go)
+      where
+        rest : KeepFirst ceilings leasts (before i) (part i counts) n
+        rest =
+            on (before i) (omega (arith, p .place, before-length i (omega arith)))
+            (kept-to (before i) (before i) sums (behind 0) _ refl (omega arith) (p .sums-kept))
+
+        go : (k : ℕ) → k < i + n → KeepsTurned ceilings leasts (before (suc k))
+        go k h =
+            elim (decLt k i) [
+              | yes f ↦ p .keeps k f
+              | no f ↦
+                  let e : i + (k - i) ≡ k = omega arith in
+                  subst (λ j. KeepsTurned ceilings leasts (before (suc j))) e
+                  (subst (KeepsTurned ceilings leasts) (rest-is (k - i)) (rest .1 (k - i) (omega arith)))
+            ]

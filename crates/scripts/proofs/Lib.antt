@@ -13,6 +13,7 @@ pub mod Fresh
 mod Examples
 mod Adding
 mod Growing
+mod Twice
 mod Keeping
 mod Counting
 mod Raising

@@ -80,6 +80,12 @@ pub record Grown (sums ceilings leasts : List ℕ) (x : ℕ) (grown : List ℕ) 
   pub none : getD grown (length ceilings) 0 ≡ getD sums (length ceilings) 0
   pub told : Tells within ((i : ℕ) → i < length ceilings → InsideAt grown ceilings leasts i)
 
+-- Two ticks are added at once: where the windows of both are within, as if the second were added after the first.
+abbrev pub GrownTwice : List ℕ → List ℕ → List ℕ → ℕ → ℕ → List ℕ → Bool → Type 0
+GrownTwice sums ceilings leasts x y grown within =
+    (length grown ≡ length sums)
+    × (within ≡ true → (middle : List ℕ) × Grown sums ceilings leasts x middle true × Grown middle ceilings leasts y grown true)
+
 -- Every window that ends at the newest tick of xs keeps the figures, which stand turned round.
 abbrev pub KeepsTurned : List ℕ → List ℕ → List ℕ → Type 0
 KeepsTurned ceilings leasts xs =
@@ -90,6 +96,11 @@ KeepsTurned ceilings leasts xs =
 abbrev pub KeepFirst : List ℕ → List ℕ → List ℕ → List ℕ → ℕ → Type 0
 KeepFirst ceilings leasts xs counts n =
     (n ≤ length counts) × ((k : ℕ) → k < n → KeepsTurned ceilings leasts (xs ++ take (suc k) counts))
+
+-- The same after any ticks that have these sums, where there are ticks for every window.
+abbrev pub KeepOn : List ℕ → List ℕ → List ℕ → List ℕ → ℕ → Type 0
+KeepOn ceilings leasts sums counts n =
+    (xs : List ℕ) → length ceilings ≤ length xs + 1 → KeptSums xs (length ceilings - 1) sums → KeepFirst ceilings leasts xs counts n
 
 -- The first n of the counts pass.
 abbrev pub PassesFirst : MonitorView → List ℕ → ℕ → Type 0

@@ -13,7 +13,7 @@ ghost use Rattle.curves.specs.Unlimited.{withMark};
 ghost use Rattle.history.specs.Steps.{Slices, viewWith};
 ghost use Rattle.monitor.specs.Monitoring.{monitorView, closedIn, LegalMonitor};
 ghost use Rattle.scripts.specs.Steps.{sumLimit, KeptSums, strictCeiling, strictLeast, TurnedStrict};
-ghost use Rattle.scripts.specs.Steps.{LaterKept, Placed, Grown, KeepFirst, PassesFirst};
+ghost use Rattle.scripts.specs.Steps.{LaterKept, Placed, Grown, GrownTwice, KeepFirst, KeepOn, PassesFirst};
 
 // The longest horizon.
 const MAX_HORIZON: usize = 256;
@@ -105,7 +105,8 @@ fn strict_least(given: u32, unlimited: bool, closed: u32) -> u32
 }
 
 // Adds count after count to the sums of the ticks before them, until a window is outside its figures, or a count is above the limit of the
-// sums: gives back how many there are before that. `first` is the place of the longest window that is judged.
+// sums: gives back how many there are before that. `first` is the place of the longest window that is judged; once that is the horizon,
+// two counts are added at a time.
 fn pass(ceilings: &[u32], leasts: &[u32], sums: &mut [u32], ticks: &[u32], counts: &[u32]) -> usize
     requires { ⌜ Placed (now sums) (now ceilings) (now leasts) ⌝ }
     requires { ⌜ length (now ticks) < length (now ceilings) ⌝ }
@@ -115,6 +116,9 @@ fn pass(ceilings: &[u32], leasts: &[u32], sums: &mut [u32], ticks: &[u32], count
     let mut first = ceilings.len() - 1 - ticks.len();
     let mut i = 0;
     while i < counts.len() {
+        if first == 0 {
+            return i + pass_on(ceilings, leasts, sums, &counts[i..]);
+        }
         let count = counts[i];
         if SUM_LIMIT < count {
             return i;
@@ -127,12 +131,68 @@ fn pass(ceilings: &[u32], leasts: &[u32], sums: &mut [u32], ticks: &[u32], count
         ) {
             return i;
         }
-        if 0 < first {
-            first -= 1;
-        }
+        first -= 1;
         i += 1;
     }
     i
+}
+
+// The same where the windows of all lengths are judged. A pair of counts one of which does not pass is given up whole.
+fn pass_on(ceilings: &[u32], leasts: &[u32], sums: &mut [u32], counts: &[u32]) -> usize
+    requires { ⌜ Placed (now sums) (now ceilings) (now leasts) ⌝ }
+    requires { ⌜ (1 ≤ length (now ceilings)) × LaterKept (now sums) ⌝ }
+    ensures { λ r. ⌜ KeepOn (now (ceilings .entry)) (now (leasts .entry)) (now (sums .entry)) (now (counts .entry)) r ⌝ }
+{
+    let mut i = 0;
+    while i + 1 < counts.len() {
+        let one = counts[i];
+        let two = counts[i + 1];
+        if !((one <= SUM_LIMIT) & (two <= SUM_LIMIT)) {
+            return i;
+        }
+        if !grow_twice(sums, ceilings, leasts, one, two) {
+            return i;
+        }
+        i += 2;
+    }
+    if counts.len() <= i {
+        return i;
+    }
+    let count = counts[i];
+    if SUM_LIMIT < count {
+        return i;
+    }
+    if !grow(sums, ceilings, leasts, count) {
+        return i;
+    }
+    i + 1
+}
+
+// Two ticks at once. On some processors a turn of `grow` has to wait for what the tick before it has stored one place further on, which at
+// a small horizon takes longer than the turns themselves: so a tick waits half as often.
+fn grow_twice(sums: &mut [u32], ceilings: &[u32], leasts: &[u32], one: u32, two: u32) -> bool
+    requires { ⌜ Placed (now sums) (now ceilings) (now leasts) ⌝ }
+    requires { ⌜ (1 ≤ length (now ceilings)) × LaterKept (now sums) ⌝ }
+    requires { ⌜ (one ≤ sumLimit) × (two ≤ sumLimit) ⌝ }
+    ensures { λ r. ⌜ GrownTwice (now (sums .entry)) (now (ceilings .entry)) (now (leasts .entry)) one two (now (sums .exit)) r ⌝ }
+{
+    let both = one + two;
+    let last = ceilings.len() - 1;
+    let mut within = true;
+    let mut i = 0;
+    while i < last {
+        let middle = sums[i + 1] + one;
+        let sum = sums[i + 2] + both;
+        sums[i] = sum;
+        within = within
+            & (inside(leasts[i], middle, ceilings[i]) & inside(leasts[i], sum, ceilings[i]));
+        i += 1;
+    }
+    let middle = sums[last + 1] + one;
+    let sum = sums[last + 1] + two;
+    sums[last] = sum;
+    within
+        & (inside(leasts[last], middle, ceilings[last]) & inside(leasts[last], sum, ceilings[last]))
 }
 
 // Each sum becomes the next one plus the count; tells whether every one is within its figures. This is where the time goes: one forward
@@ -156,7 +216,7 @@ fn grow(sums: &mut [u32], ceilings: &[u32], leasts: &[u32], count: u32) -> bool
 // Whether a sum is within its figures. They are all small enough for signed numbers, of which one instruction compares four with four; for
 // unsigned ones there is none.
 fn inside(least: u32, sum: u32, ceiling: u32) -> bool
-    requires { ⌜ (least ≤ sumLimit) × (sum ≤ sumLimit + sumLimit) × (ceiling ≤ sumLimit) ⌝ }
+    requires { ⌜ (least ≤ sumLimit) × (sum ≤ sumLimit + sumLimit + sumLimit) × (ceiling ≤ sumLimit) ⌝ }
     ensures { λ r. ⌜ Tells r ((least ≤ sum) × (sum ≤ ceiling)) ⌝ }
 {
     (least as i32 <= sum as i32) & (sum as i32 <= ceiling as i32)

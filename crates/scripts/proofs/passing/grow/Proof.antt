@@ -30,7 +30,7 @@ inside-requires c κs =
     let placed = start (turn .before) .pre .0 in
     let i = turn .before .loop .i in (
       placed .leasts-kept i (omega (arith, placed .leasts-same, turn .loop-test .taken)),
-      small turn,
+      omega (arith, small turn),
       placed .ceilings-kept i (turn .loop-test .taken),
     )
 
