@@ -1,23 +1,25 @@
 -- A loop that answers the entries of a list one after the other, carrying a state, into another list. Assumes nothing.
-use Rattle.laws.proofs.Base.{ℕ, suc, _+_, _-_, _≤_, _<_, _≡_, refl, sym, ap, _∙_, List, [], _∷_, _++_, map, arith, append-assoc, append-nil}
+use Rattle.laws.proofs.Base.{ℕ, zero, suc, _+_, _-_, _≤_, _<_, _≡_, refl, true, sym, ap, _∙_, List, [], _∷_, _++_, map, arith, append-assoc, append-nil}
 use Rattle.laws.proofs.Base.{add-one, length, getD, set, take, drop, length-append, length-drop, drop-of-length-le, length-take-le}
 use Rattle.laws.proofs.Base.{drop-cons}
 use Rattle.laws.proofs.Base.{take-suc, take-all, set-at, decLt}
 use mathlib.Core.List.{map-append}
-use lib.IntN.{ℤ}
+use lib.IntN.{ℤ, pos}
 use lib.ListN.{length-map}
 use lib.Seq.{set-out, take-append-le, take-nil}
 use Rattle.laws.specs.Writing.{over}
 use Rattle.laws.proofs.Copying.{over-whole}
 use Rattle.curves.specs.Margins.{Margin}
 use Rattle.history.specs.States.{View}
-use Rattle.monitor.specs.Monitoring.{MonitorView, judging}
+use Rattle.monitor.specs.Monitoring.{MonitorView, LegalMonitor, judging}
 use Rattle.monitor.specs.Margins.{carried}
-use Rattle.monitor.specs.Calls.{afterTick, afterTicks, rulings, margins}
+use Rattle.monitor.specs.Calls.{monitorAfter, afterTick, afterTicks, rulings, margins}
+use Rattle.monitor.proofs.Said.{judging-failed, carried-failed}
 use Rattle.generator.specs.Generating.{sending}
 use Rattle.generator.specs.Calls.{viewAfter, sendings, afterSendings}
 use Rattle.scripts.specs.Codes.{rulingCode, sendingCode}
 use Rattle.scripts.specs.Scripts.{marginValues}
+use Rattle.scripts.specs.Runs.{filledFrom}
 use Rattle.scripts.proofs.Pieces.{after-append, rulings-append, margins-append, sendings-append, sent-append}
 use Rattle.scripts.proofs.Pieces.{rulings-length, margins-length, sendings-length}
 
@@ -144,6 +146,48 @@ module _ (v : View) (xs : List ℕ) (i : ℕ) (l : i < length xs) (u : View) (is
   send-on u′ e =
       e ∙ ap (λ z. viewAfter (sending z (getD xs i 0)) z) is ∙ sym (sent-one v (take i xs) (getD xs i 0))
       ∙ ap (afterSendings v) (rw (add-one i) (sym (take-suc xs i 0 l)))
+
+-- ---- one entry in every place from i on
+pub filled-more : {A : Type 0} (a : A) (n i : ℕ) (xs : List A) → i < n
+    → filledFrom a (i + 1) (n - (i + 1)) (set xs i a) ≡ filledFrom a i (n - i) xs
+unfolding filledFrom
+filled-more a n i xs l =
+    let e : n - i ≡ suc (n - (i + 1)) = omega arith in
+    ap (λ k. filledFrom a k (n - (i + 1)) (set xs i a)) (add-one i) ∙ sym (ap (λ k. filledFrom a i k xs) e)
+
+pub filled-end : {A : Type 0} (a : A) (n i : ℕ) (xs : List A) → n ≤ i → filledFrom a i (n - i) xs ≡ xs
+unfolding filledFrom
+filled-end a n i xs l = let e : n - i ≡ 0 = omega arith in ap (λ k. filledFrom a i k xs) e
+
+-- A monitor that has failed fills both lists so: its view m stays.
+module _ (w : MonitorView) (xs : List ℕ) (m : MonitorView) (l : LegalMonitor m) (f : m .failed ≡ true) where
+  failed-stays : (x : ℕ) → m ≡ afterTick m x
+  failed-stays x = ap (λ r. monitorAfter r m x) (sym (judging-failed m x l f))
+
+  failed-on : (i : ℕ) → i < length xs → m ≡ afterTicks w (take i xs) → m ≡ afterTicks w (take (i + 1) xs)
+  failed-on i h is = tick-on w xs i h m is m (failed-stays _)
+
+  pub failed-verdicts : (n i : ℕ) → i + n ≡ length xs → m ≡ afterTicks w (take i xs) → (found out : List ℕ)
+      → out ≡ over (codes w (take i xs)) found → filledFrom 3_000 i n out ≡ over (codes w xs) found
+  unfolding filledFrom
+  failed-verdicts zero i e is found out h = h ∙ ap (λ t. over (codes w t) found) (take-all i xs (omega arith))
+  failed-verdicts (suc n) i e is found out h =
+      failed-verdicts n (suc i) (omega arith) (rw (add-one i) at (failed-on i (omega arith) is)) found (set out i 3_000)
+      (rw (add-one i) at (verdict-put w xs i (omega arith) m is found out 3_000 h
+      (ap rulingCode (sym (judging-failed m (getD xs i 0) l f)))))
+
+  pub failed-margins : (n i : ℕ) → i + n ≡ length xs → m ≡ afterTicks w (take i xs) → (found out : List ℤ)
+      → out ≡ over (values w (take i xs)) found → filledFrom (pos 0) i n out ≡ over (values w xs) found
+  unfolding filledFrom
+  failed-margins zero i e is found out h = h ∙ ap (λ t. over (values w t) found) (take-all i xs (omega arith))
+  failed-margins (suc n) i e is found out h =
+      failed-margins n (suc i) (omega arith) (rw (add-one i) at (failed-on i (omega arith) is)) found (set out i (pos 0))
+      (rw (add-one i) at (margin-put w xs i (omega arith) m is found out (pos 0) h
+      (ap (λ (c : Margin). c .value) (sym (carried-failed m (getD xs i 0) l f)))))
+
+  pub failed-after : (n i : ℕ) → i + n ≡ length xs → m ≡ afterTicks w (take i xs) → m ≡ afterTicks w xs
+  failed-after zero i e is = is ∙ ap (afterTicks w) (take-all i xs (omega arith))
+  failed-after (suc n) i e is = failed-after n (suc i) (omega arith) (rw (add-one i) at (failed-on i (omega arith) is))
 
 -- ---- the end of each: no entry of the list is left
 pub put-all : {S : Type 0} (run : S → List ℕ → List ℕ) → ((s : S) (ys : List ℕ) → length (run s ys) ≡ length ys) → (s : S) (xs : List ℕ)

@@ -1,10 +1,10 @@
 -- What the private functions on words promise each other. No public promise cites anything of it.
-use Prim.Native.Nat.{ℕ, _-_, _≤_}
+use Prim.Native.Nat.{ℕ, zero, suc, _-_, _≤_}
 use mathlib.Core.Path.{_≡_}
 use mathlib.Core.Bool.{Bool, true, false}
 use mathlib.Core.List.{List, [], _∷_, _++_, map}
 use lib.IntN.{ℤ}
-use lib.ListN.{length, take}
+use lib.ListN.{length, set, take}
 use Rattle.laws.specs.Writing.{over}
 use Rattle.curves.specs.Ticks.{newest}
 use Rattle.bounds.specs.Bounds.{maxHorizon, Bounded}
@@ -64,6 +64,11 @@ pub record JudgedByValue (w : MonitorView) (xs : List ℕ) (ms : List ℤ) (afte
     pub state : monitorViewOf r ≡ afterTicks w xs
     pub verdicts : after ≡ map rulingCode (rulings w xs)
     pub margins-left : margins-after ≡ over (marginValues (margins w xs)) ms
+
+-- A list with one entry in each of n places from i on, as far as it has these.
+unfoldable pub filledFrom : {A : Type 0} → A → ℕ → ℕ → List A → List A
+filledFrom a i zero xs = xs
+filledFrom a i (suc n) xs = filledFrom a (suc i) n (set xs i a)
 
 -- ---- choices
 -- The first n of the choices are sent, all are, and the same with the state by value.

@@ -5,13 +5,15 @@ use crate::words;
 use monitor::Monitor;
 use monitor::Verdict;
 ghost use mathlib.Core.Path.{_≡_};
+ghost use Prim.Native.Nat.{_-_};
+ghost use lib.IntN.{pos};
 ghost use lib.ListN.{length, set};
-ghost use Rattle.monitor.specs.Monitoring.{monitorViewOf};
+ghost use Rattle.monitor.specs.Monitoring.{monitorViewOf, LegalMonitor};
 ghost use Rattle.monitor.specs.Answers.{verdictReply};
 ghost use Rattle.scripts.specs.Codes.{rulingCode};
 ghost use Rattle.scripts.specs.Words.{LegalMonitorWords};
 ghost use Rattle.scripts.specs.Steps.{NamesWindow};
-ghost use Rattle.scripts.specs.Runs.{JudgedFirst, JudgedRest, JudgedByValue};
+ghost use Rattle.scripts.specs.Runs.{JudgedFirst, JudgedRest, JudgedByValue, filledFrom};
 
 // Verdicts as entries of a list.
 const PASSED: u32 = 0;
@@ -69,15 +71,19 @@ pub(crate) fn judge_rest(
     words::write_failed(state, left.failed);
 }
 
-// Each count by the state that the one before it left.
+// Each count by the state that the one before it left. A monitor that has failed judges nothing any more.
 fn judge_all(opened: Monitor, counts: &[u32], verdicts: &mut [u32], margins: &mut [i64]) -> Monitor
-    requires { ⌜ length (now verdicts) ≡ length (now counts) ⌝ }
+    requires { ⌜ (length (now verdicts) ≡ length (now counts)) × LegalMonitor (monitorViewOf opened) ⌝ }
     ensures { λ r. ⌜ JudgedByValue (monitorViewOf opened) (now (counts .entry)) (now (margins .entry)) (now (verdicts .exit))
         (now (margins .exit)) r ⌝ }
 {
     let mut monitor = opened;
     let mut i = 0;
     while i < counts.len() {
+        if monitor.failed {
+            reject_from(i, verdicts, margins);
+            return monitor;
+        }
         let judgement = monitor.tick(counts[i]);
         let verdict = judgement.verdict;
         verdicts[i] = verdict_code(verdict);
@@ -86,6 +92,21 @@ fn judge_all(opened: Monitor, counts: &[u32], verdicts: &mut [u32], margins: &mu
         i += 1;
     }
     monitor
+}
+
+// The verdicts from a place on, and the margins, of a monitor that has failed.
+fn reject_from(first: usize, verdicts: &mut [u32], margins: &mut [i64])
+    ensures { λ _. ⌜ now (verdicts .exit)
+        ≡ filledFrom 3_000 first (length (now (verdicts .entry)) - first) (now (verdicts .entry)) ⌝ }
+    ensures { λ _. ⌜ now (margins .exit)
+        ≡ filledFrom (pos 0) first (length (now (verdicts .entry)) - first) (now (margins .entry)) ⌝ }
+{
+    let mut i = first;
+    while i < verdicts.len() {
+        verdicts[i] = ALREADY_FAILED;
+        put_margin(margins, i, 0);
+        i += 1;
+    }
 }
 
 // Puts a margin into its place, if there is one.

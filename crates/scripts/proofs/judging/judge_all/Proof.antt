@@ -1,17 +1,22 @@
 -- `scripts::judging::judge_all` meets its contract: before a turn the counts before i have their verdicts and margins, and the monitor is
 -- where these left it. Assumes nothing.
-use Rattle.laws.proofs.Base.{_+_, _-_, _≤_, _≡_, refl, sym, ap, _∙_, arith, needs, length, take, take-all}
+use Rattle.laws.proofs.Base.{_+_, _-_, _≤_, _≡_, refl, sym, ap, _∙_, subst⁻¹, arith, needs, length, take, take-all}
+use lib.IntN.{pos}
 use mir.Syntax.{w64}
 use mir.Val.{SFits}
 use Rattle.laws.specs.Writing.{over}
+use Rattle.laws.proofs.Copying.{over-whole}
 use Rattle.laws.proofs.Signed.{result-read}
 use Rattle.curves.specs.Margins.{Margin}
-use Rattle.monitor.specs.Monitoring.{monitorViewOf}
+use Rattle.monitor.specs.Monitoring.{monitorViewOf, LegalMonitor}
 use Rattle.monitor.specs.Calls.{afterTicks, rulings, margins}
 use Rattle.monitor.proofs.Said.{monitor-next}
 use Rattle.scripts.specs.Codes.{rulingCode}
+use Rattle.scripts.specs.Runs.{filledFrom}
 use Rattle.scripts.proofs.Coded.{names-window}
+use Rattle.scripts.proofs.Pieces.{stays-legal, stays-ticks}
 use Rattle.scripts.proofs.Running.{codes, values, codes-length, over-none, verdict-put, margin-put, tick-on, put-all}
+use Rattle.scripts.proofs.Running.{failed-verdicts, failed-margins, failed-after}
 use Rattle.scripts.proofs.judging.judge_all.Statement.{statement}
 use Rattle.scripts.proofs.judging.judge_all.Tie as tie
 
@@ -32,12 +37,14 @@ loop-holds c = (omega arith, refl, refl, over-none _, over-none _, refl)
 verdict-code-requires : tie.Need-verdict-code-requires Inv-loop μ-loop
 verdict-code-requires c κs = names-window _ _ (c .tick .result .verdict) (c .tick .ensures .answer)
 
+-- ---- a turn
 loop-again : tie.Need-loop-again Inv-loop μ-loop
 loop-again c =
-    let head = c .before .before .before .before .before .before .before .before .before .loop in
-    let start = c .before .before .before .before .before .before .before .before .before .before .before .before in
-    let inside = c .before .before .before .before .before .before .before .before .loop-test .taken in
     let told = c .before .before .before .before .before .before in
+    let test = told .before .before .before in
+    let head = test .before .loop in
+    let start = test .before .before .before .before in
+    let inside = test .loop-test .taken in
     let w = monitorViewOf (start .args .opened) in
     let fits : SFits w64 (told .tick .result .margin) = search needs in
     let m = monitorViewOf (head .monitor) in (
@@ -53,8 +60,36 @@ loop-again c =
       tick-on w (start .args .counts .now) (head .i) inside m (head .inv .5) _ (monitor-next _ _ _ (told .tick .ensures)),
     )
 
+-- ---- the ways out
+-- Where the monitor has failed it judges no more of the counts: they are left from i on.
 returns : tie.Need-returns Inv-loop μ-loop
 returns c =
+    let found = c .before .before .before .reject-from in
+    let e = c .before .before .before .before .before .before in
+    let h = e .before .before .loop in
+    let s = e .before .before .before .before .before in
+    let xs = s .args .counts .now in
+    let w = monitorViewOf (s .args .opened) in
+    let m = monitorViewOf (h .monitor) in
+    let legal : LegalMonitor m =
+    subst⁻¹ LegalMonitor (h .inv .5) (stays-legal w _ (s .pre .1) (stays-ticks w (take (h .i) xs) (s .pre .1))) in
+    let n = length (s .args .verdicts .now) - h .i in
+    let left : h .i + n ≡ length xs = omega (arith, s .pre .0, e .before .loop-test .taken) in
+    let many : length (h .verdicts) - h .i ≡ n = ap (λ k. k - h .i) (h .inv .1) in
+    record {
+      state = failed-after w xs m legal (e .if1 .taken) n (h .i) left (h .inv .5);
+      verdicts =
+          found .ensures .0 ∙ ap (λ k. filledFrom 3_000 (h .i) k (h .verdicts)) many
+          ∙ failed-verdicts w xs m legal (e .if1 .taken) n (h .i) left (h .inv .5) (s .args .verdicts .now) (h .verdicts) (h .inv .3)
+          ∙ over-whole (codes w xs) (s .args .verdicts .now) (s .pre .0 ∙ sym (codes-length w xs));
+      margins-left =
+          found .ensures .1 ∙ ap (λ k. filledFrom (pos 0) (h .i) k (h .margins)) many
+          ∙ failed-margins w xs m legal (e .if1 .taken) n (h .i) left (h .inv .5) (s .args .margins .now) (h .margins) (h .inv .4);
+    }
+
+-- Or no count is left.
+returns-2 : tie.Need-returns-2 Inv-loop μ-loop
+returns-2 c =
     let end = c .before .loop in
     let start = c .before .before .before .before in
     let xs = start .args .counts .now in
@@ -62,7 +97,7 @@ returns c =
     let all = take-all (end .i) xs (c .loop-test .left) in
     record {
       state = end .inv .5 ∙ ap (afterTicks w) all;
-      verdicts = put-all codes codes-length w xs (end .i) (c .loop-test .left) (start .args .verdicts .now) _ (start .pre) (end .inv .3);
+      verdicts = put-all codes codes-length w xs (end .i) (c .loop-test .left) (start .args .verdicts .now) _ (start .pre .0) (end .inv .3);
       margins-left = end .inv .4 ∙ ap (λ t. over (values w t) (start .args .margins .now)) all;
     }
 
@@ -73,6 +108,10 @@ judge-all-spec =
     Inv-loop
     μ-loop
     loop-holds
+    (λ c κs. search needs)
+    (λ c. search needs)
+    (λ c. search needs)
+    returns
     (λ c. search needs)
     (λ c. search needs)
     (λ c κs. search needs)
@@ -85,4 +124,4 @@ judge-all-spec =
     loop-again
     (λ c. search needs)
     (λ c. search needs)
-    returns)
+    returns-2)

@@ -1,7 +1,7 @@
 -- `scripts::judging::judge_rest` meets its contract: the state goes out by value, and what its ticks leave is written back.
 -- Assumes nothing.
-use Rattle.laws.proofs.Base.{sym, subst, arith, needs}
-use Rattle.monitor.specs.Monitoring.{monitorViewOf}
+use Rattle.laws.proofs.Base.{subst, subst⁻¹, arith, needs}
+use Rattle.monitor.specs.Monitoring.{monitorViewOf, LegalMonitor}
 use Rattle.scripts.specs.Words.{monitorFrom}
 use Rattle.scripts.specs.Runs.{JudgedByValue}
 use Rattle.scripts.proofs.Written.{ticks-fit, left-written}
@@ -12,6 +12,13 @@ use Rattle.scripts.proofs.judging.judge_all.Reads as judge-all-reads
 use Rattle.scripts.proofs.words.read_monitor.Reads as read-monitor-reads
 use Rattle.scripts.proofs.words.write_failed.Reads as write-failed-reads
 use Rattle.scripts.proofs.words.write_held.Reads as write-held-reads
+
+-- The state that goes out is legal.
+judge-all-requires : tie.Need-judge-all-requires
+judge-all-requires c κs =
+    let read = c .before .before in
+    let s = read .before .before .before .before .before in
+    (s .pre .1, subst⁻¹ (λ m. LegalMonitor (monitorViewOf m)) (read .read-monitor .ensures) (s .pre .0 .1))
 
 -- Where all counts are judged.
 abbrev start : tie.After-judge-all → tie.Start
@@ -50,7 +57,7 @@ judge-rest-spec =
     tie.close
     (tie.spec
     (λ c κs. search needs)
-    (λ c κs. search needs)
+    judge-all-requires
     write-held-requires
     (λ c κs. search needs)
     (λ c. search needs)
