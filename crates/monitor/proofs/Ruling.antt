@@ -28,7 +28,7 @@ use Rattle.monitor.specs.Monitoring.{MonitorView, monitorView, monitorOf
 use Rattle.monitor.specs.Monitoring.{judged, lost, ruled, judging, afterPassed, MonitorNext}
 use Rattle.monitor.specs.Margins.{noMargin, carried}
 use Rattle.monitor.specs.Answers.{verdictReply}
-use Rattle.monitor.specs.Steps.{marginAs, passesAs, unjudgedAs, atFirst, FoundOf, MeasuredOf, lostAs, KeptOrLost, RuledWhere}
+use Rattle.monitor.specs.Steps.{marginAs, passesAs, unjudgedAs, atFirst, FoundOf, MeasuredOf, saidAs, KeptOrLost, RuledWhere}
 use Rattle.monitor.specs.Steps.{RuledAfter, ExaminedAfter, FitTo, SumsFit, HoldsWhere, HeldMore, HeldAsFound, Held, markAfter}
 use Rattle.monitor.proofs.Said.{judging-bad, judging-failed, judging-legal, judging-unfailed}
 use Rattle.monitor.proofs.Said.{carried-bad, carried-failed, carried-judged}
@@ -234,28 +234,28 @@ module _ (w : MonitorView) (x : ℕ) (l : LegalMonitor w) (f : w .failed ≡ fal
     passes-given : by-given ≡ ticks.passed
     passes-given = passed-told (given .verdict) by-given (G .answer) (sym (G .passes) ∙ t)
 
-    lost-found : ¬ ticks.Keeps (w .closed) ys → FoundOf w x (lostAs given)
-    lost-found n =
+    said-found : (v : Verdict) → verdictReply v ≡ result (ruled ticks.passed by-closed) → FoundOf w x (saidAs v given)
+    said-found v e =
         record {
-          answer =
-              ap result (go by-closed (verdict? (w .closed) ys .1) ∙ ap (λ u. ruled u by-closed) (sym passes-given))
-              ∙ sym (judging-unfailed w x l f);
+          answer = e ∙ ap (λ u. result (ruled u by-closed)) (sym passes-given) ∙ sym (judging-unfailed w x l f);
           margin = carried-judged w x l f (marginAs (given .margin)) (G .margin);
           passes = refl;
         }
-      where
-        go : (u : ticks.Verdict) → ticks.Right (w .closed) ys u → lost ≡ ruled ticks.passed u
-        go ticks.passed k = absurd (n k)
-        go (ticks.tooMany d) k = refl
-        go (ticks.tooFew d) k = refl
 
     passed-found : (r : Finding) → KeptOrLost given (w .closed) ys r → FoundOf w x r
     passed-found r =
         ⊎-elim
-        (λ k.
-        let e : by-closed ≡ ticks.passed = verdict-is (w .closed) ys ticks.passed (k .0) in
-        subst⁻¹ (FoundOf w x) (k .1) (alone-found (e ∙ sym passes-given)))
-        (λ k. subst⁻¹ (FoundOf w x) (k .1) (lost-found (k .0)))
+        (λ k. subst⁻¹ (FoundOf w x) (k .1) (said-found Passed (kept by-closed (verdict-is (w .closed) ys ticks.passed (k .0)))))
+        (λ k. subst⁻¹ (FoundOf w x) (k .1) (said-found Lost (left (k .0) by-closed (verdict? (w .closed) ys .1))))
+      where
+        kept : (u : ticks.Verdict) → u ≡ ticks.passed → verdictReply Passed ≡ result (ruled ticks.passed u)
+        kept u e = rw e refl
+
+        left : ¬ ticks.Keeps (w .closed) ys → (u : ticks.Verdict) → ticks.Right (w .closed) ys u
+            → verdictReply Lost ≡ result (ruled ticks.passed u)
+        left n ticks.passed k = absurd (n k)
+        left n (ticks.tooMany d) k = refl
+        left n (ticks.tooFew d) k = refl
 
 -- ---- by arrays
 module _ (H : ℕ) (us ls : List ℕ) (k : ℕ) (xs cus cls : List ℕ) (f : Bool) (x : ℕ) (given : Finding) where

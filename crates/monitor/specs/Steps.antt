@@ -103,13 +103,13 @@ pub record MeasuredOf (v : View) (x : ℕ) (r : Finding) : Type 0 where
   pub margin : Tightest (v .pair) (then (v .held) x) (marginAs (r .margin))
   pub passes : r .passes ≡ passesAs (r .verdict)
 
--- The same, but that the stream is lost.
-abbrev pub lostAs : Finding → Finding
-lostAs r = record { verdict = Lost; margin = r .margin; passes = false }
+-- With another verdict.
+abbrev pub saidAs : Verdict → Finding → Finding
+saidAs v r = record { verdict = v; margin = r .margin; passes = passesAs v }
 
 -- A tick that passes by figures that were looked at before is lost where it does not keep those of p.
 abbrev pub KeptOrLost : Finding → Pair → List ℕ → Finding → Type 0
-KeptOrLost earlier p ys r = (Keeps p ys × (r ≡ earlier)) ⊎ ((¬ Keeps p ys) × (r ≡ lostAs earlier))
+KeptOrLost earlier p ys r = (Keeps p ys × (r ≡ saidAs Passed earlier)) ⊎ ((¬ Keeps p ys) × (r ≡ saidAs Lost earlier))
 
 -- Figures and their mark after others, which found `earlier`: they count where the tick passes by those. While its margin has no
 -- window, there are none before them.

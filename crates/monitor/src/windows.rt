@@ -30,7 +30,8 @@ pub(crate) struct Margin {
 }
 
 // Looks at figures after others, which found `earlier`. The first are those as given: no margin has been found, and they give the
-// verdict and the margin. A tick that passes by them is lost where it does not keep the next ones, the closed figures.
+// verdict and the margin. A tick that passes by them is lost where it does not keep the next ones, the closed figures. That it passes is
+// written anew, field by field: the processor waits for a finding that is copied whole just after its parts were written.
 pub(crate) fn rule(
     earlier: Finding,
     upper: &[u32],
@@ -51,7 +52,11 @@ pub(crate) fn rule(
         return measure(upper, lower, unlimited, ticks, count);
     }
     if keeps(upper, lower, ticks, count) {
-        return earlier;
+        return Finding {
+            verdict: Verdict::Passed,
+            margin,
+            passes: true,
+        };
     }
     Finding {
         verdict: Verdict::Lost,
