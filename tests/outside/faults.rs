@@ -174,6 +174,8 @@ pub enum Fault {
     MarginsPastCleared,
     MarginsWholeOrNone,
     FailedMarginsLeft,
+    LateFailedMarginsLeft,
+    LateFailedPasses,
     NoCountEnds,
     NoCountRefuses,
     // Runs: sums that are kept from tick to tick.
@@ -181,6 +183,7 @@ pub enum Fault {
     SumsBeginAnew,
     ClosedShortOnly,
     GivenShortOnly,
+    SecondOfTwoPasses,
     SumsIn32Bits,
     SumsIn31Bits,
     SumsWithSign,

@@ -15,6 +15,9 @@ use crate::words::Kind;
 /// From so many ticks on a list is long.
 const LONG: usize = 1_000;
 
+/// From so many on, less than a horizon, one may do something else with what is left.
+pub const LATE: usize = 64;
+
 /// A history, the closed figures, and what a failed monitor failed with.
 pub struct Monitor {
     pub history: History,
@@ -158,6 +161,9 @@ impl Faulty {
 
     /// The figures as given go first, then the closed ones.
     fn ruling(&self, monitor: &Monitor, count: u32) -> u32 {
+        if self.has(SecondOfTwoPasses) && monitor.history.is_second_of_two() {
+            return PASSED;
+        }
         let figures = if self.has(ClosedAlone) {
             &monitor.closed
         } else {
@@ -176,8 +182,12 @@ impl Faulty {
 
     fn monitor_tick(&self, monitor: &mut Monitor, count: u32) -> u32 {
         if monitor.failed != PASSED {
-            let repeated = self.has(VerdictRepeated) || (self.has(LostRepeated) && monitor.failed == LOST);
-            return if repeated { monitor.failed } else { ALREADY_FAILED };
+            return match self.fault {
+                VerdictRepeated => monitor.failed,
+                LostRepeated if monitor.failed == LOST => LOST,
+                LateFailedPasses if monitor.history.ran == LATE => PASSED,
+                _ => ALREADY_FAILED,
+            };
         }
         let verdict = self.ruling(monitor, count);
         let lost = verdict >= LOST;

@@ -33,6 +33,11 @@ impl History {
         self.sums[ticks.min(self.held.len())]
     }
 
+    /// Of ticks that are taken two at a time once all that can be held are.
+    pub fn is_second_of_two(&self) -> bool {
+        self.held.len() + 1 == self.horizon() && self.ran % 2 == 1
+    }
+
     fn sum_up(&mut self) {
         self.sums = vec![0];
         for (place, &count) in self.summed.iter().rev().enumerate() {

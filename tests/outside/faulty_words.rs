@@ -3,7 +3,7 @@
 
 use crate::faults::Fault::*;
 use crate::faulty_closing::{Faulty, Figures, Lists};
-use crate::faulty_monitor::Monitor;
+use crate::faulty_monitor::{Monitor, LATE};
 use crate::states::State;
 use crate::streams::Margin;
 use crate::subject::{ALREADY_FAILED, LONGEST_HORIZON, MONITOR_WORDS, NO_COUNT, PASSED};
@@ -139,6 +139,11 @@ impl Faulty {
         came
     }
 
+    /// Whether the margin of a tick after a rejection stays as it was.
+    fn leaves_margin(&self, place: usize) -> bool {
+        self.has(FailedMarginsLeft) || (self.has(LateFailedMarginsLeft) && place >= LATE)
+    }
+
     /// The ticks of a run: how many it says there were.
     fn run_ticks(&self, kind: Kind, monitor: &mut Monitor, ran: usize, lent: &mut Lent) -> i64 {
         let more = if self.has(AllEntriesRun) { lent.entries.len() } else { ran };
@@ -149,7 +154,7 @@ impl Faulty {
                 continue;
             }
             lent.answers[place] = answer;
-            let left = no_margins || (self.has(FailedMarginsLeft) && answer == ALREADY_FAILED);
+            let left = no_margins || (answer == ALREADY_FAILED && self.leaves_margin(place));
             if let Some(entry) = lent.margins.get_mut(place).filter(|_| !left) {
                 *entry = margin.smallest;
             }

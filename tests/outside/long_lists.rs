@@ -11,7 +11,7 @@ use crate::script_cases::choices;
 use crate::sendings::check_passed;
 use crate::streams::sum;
 use crate::subject::{Subject, GENERATOR_WORDS, LIMIT, LONGEST_HORIZON, LOST, PASSED, TOO_FEW, TOO_MANY};
-use crate::tally::{horizon_end, Tally, LONG_FEW, LONG_LOST, LONG_MANY, LONG_SENT, LONG_TOTAL, LONG_UNLIMITED};
+use crate::tally::{horizon_end, Tally, LONG_AFTER, LONG_FEW, LONG_LOST, LONG_MANY, LONG_SENT, LONG_TOTAL, LONG_UNLIMITED};
 use crate::window_sums::{extremes, figures};
 use crate::words::Kind;
 use crate::{pairs, unlimited_pairs};
@@ -20,6 +20,9 @@ fn horizon(rng: &mut Rng) -> usize {
     let (short, any) = (rng.length(1, 4), rng.length(1, LONGEST_HORIZON));
     rng.pick(&[LONGEST_HORIZON, LONGEST_HORIZON, 255, 16, 17, short, any])
 }
+
+/// How many ticks come after the one that is rejected.
+const AFTER: &[usize] = &[0, 3, 62, 63, 64, 65, 130];
 
 fn length(rng: &mut Rng) -> usize {
     rng.length(1_300, 3_500)
@@ -132,7 +135,9 @@ impl Stream {
         let words = self.words(rng, broken);
         let mut counts = self.counts[self.held..].to_vec();
         let last = counts.len() - 1;
-        counts.extend(rng.arbitrary(3));
+        let after = rng.pick(AFTER);
+        counts.extend(rng.arbitrary(after));
+        tally.note(LONG_AFTER, after as u32);
         let list = List::new(Kind::Monitor, &words, &counts)?;
         let (due, tallied) = self.due(broken);
         let (passed, rest) = list.trace.answers.split_at(last);

@@ -111,6 +111,7 @@ pub const LONG_MANY: &str = "too many after thousands of ticks, window";
 pub const LONG_FEW: &str = "too few after thousands of ticks, window";
 pub const LONG_LOST: &str = "lost after thousands of ticks, window";
 pub const LONG_UNLIMITED: &str = "too few after thousands without ceilings, window";
+pub const LONG_AFTER: &str = "ticks after the rejected one of a long list";
 pub const LONG_TOTAL: &str = "a long list's counts (0 below 2^32, 1 above)";
 pub const LONG_SENT: &str = "thousands of ticks sent, horizon up to";
 pub const BORDER_COUNT: &str = "a count amid a list";
@@ -243,6 +244,7 @@ const DUE: &[(&str, &[u32])] = &[
     (LONG_FEW, LONG_WINDOWS),
     (LONG_LOST, LONG_WINDOWS),
     (LONG_UNLIMITED, LONG_WINDOWS),
+    (LONG_AFTER, &[0, 3, 62, 63, 64, 65, 130]),
     (LONG_TOTAL, &[0, 1]),
     (LONG_SENT, &[64, 255, 256]),
     (
