@@ -15,9 +15,6 @@ ghost use Rattle.monitor.specs.Monitoring.{monitorView, closedIn, LegalMonitor}
 ghost use Rattle.scripts.specs.Steps.{sumLimit, KeptSums, strictCeiling, strictLeast, TurnedStrict};
 ghost use Rattle.scripts.specs.Steps.{LaterKept, Placed, Grown, GrownTwice, KeepFirst, KeepOn, PassesFirst};
 
-// The longest horizon.
-const MAX_HORIZON: usize = 256;
-
 // How many counts, from the first on, certainly pass on a monitor that has not failed: all of them, or as far as sums in 32 bits can tell.
 // A tick passes where it keeps both the figures as given and the closed ones, so the stricter of the two are looked at alone.
 pub(crate) fn count_passing(
@@ -43,8 +40,10 @@ pub(crate) fn count_passing(
     if !sums::add_up(ticks, &mut sums[..h + 1]) {
         return 0;
     }
-    let ceilings = strict_ceilings(upper, unlimited, closed_upper);
-    let leasts = strict_leasts(lower, unlimited, closed_lower);
+    let mut ceilings = lists::zeros();
+    let mut leasts = lists::zeros();
+    turn_ceilings(upper, unlimited, closed_upper, &mut ceilings);
+    turn_leasts(lower, unlimited, closed_lower, &mut leasts);
     pass(
         &ceilings[..h],
         &leasts[..h],
@@ -54,19 +53,18 @@ pub(crate) fn count_passing(
     )
 }
 
-// The ceilings turned round, the lower one of each window; where the pair has none, what no kept sum is above.
-fn strict_ceilings(upper: &[u32], unlimited: bool, closed_upper: &[u32]) -> [u32; MAX_HORIZON]
-    requires { ⌜ (length (now upper) ≤ 256) × (length (now «closed_upper») ≡ length (now upper)) ⌝ }
-    ensures { λ r. ⌜ TurnedStrict (strictCeiling unlimited) (now (upper .entry)) (now («closed_upper» .entry)) r ⌝ }
+// The ceilings turned round, the lower one of each window; where the pair has none, what no kept sum is above. The array is lent: one that
+// is handed back is copied, and copies were half of what a list of one count took at 16 windows.
+fn turn_ceilings(upper: &[u32], unlimited: bool, closed_upper: &[u32], ceilings: &mut [u32])
+    requires { ⌜ (length (now upper) ≤ length (now ceilings)) × (length (now «closed_upper») ≡ length (now upper)) ⌝ }
+    ensures { λ _. ⌜ TurnedStrict (strictCeiling unlimited) (now (upper .entry)) (now («closed_upper» .entry)) (now (ceilings .exit)) ⌝ }
 {
-    let mut ceilings = lists::zeros();
     let h = upper.len();
     let mut i = 0;
     while i < h {
         ceilings[i] = strict_ceiling(upper[h - 1 - i], unlimited, closed_upper[h - 1 - i]);
         i += 1;
     }
-    ceilings
 }
 
 // That of one window.
@@ -80,18 +78,16 @@ fn strict_ceiling(given: u32, unlimited: bool, closed: u32) -> u32
 }
 
 // The leasts turned round, the higher one of each window; where the pair has no ceilings nothing is closed, and the given one counts.
-fn strict_leasts(lower: &[u32], unlimited: bool, closed_lower: &[u32]) -> [u32; MAX_HORIZON]
-    requires { ⌜ (length (now lower) ≤ 256) × (length (now «closed_lower») ≡ length (now lower)) ⌝ }
-    ensures { λ r. ⌜ TurnedStrict (strictLeast unlimited) (now (lower .entry)) (now («closed_lower» .entry)) r ⌝ }
+fn turn_leasts(lower: &[u32], unlimited: bool, closed_lower: &[u32], leasts: &mut [u32])
+    requires { ⌜ (length (now lower) ≤ length (now leasts)) × (length (now «closed_lower») ≡ length (now lower)) ⌝ }
+    ensures { λ _. ⌜ TurnedStrict (strictLeast unlimited) (now (lower .entry)) (now («closed_lower» .entry)) (now (leasts .exit)) ⌝ }
 {
-    let mut leasts = lists::zeros();
     let h = lower.len();
     let mut i = 0;
     while i < h {
         leasts[i] = strict_least(lower[h - 1 - i], unlimited, closed_lower[h - 1 - i]);
         i += 1;
     }
-    leasts
 }
 
 // That of one window.

@@ -43,38 +43,45 @@ lent-is a = let z = begun a in front-is _ _ (z .no-sums .ensures) (omega arith) 
 lent-long : (a : tie.After-add-up) → length (start (begun a) .args .upper .now) + 1 ≡ length (lent a)
 lent-long a = long (begun a) ∙ sym (a .add-up .ensures .0) ∙ ap length (sym (lent-is a))
 
+-- The sums, from where the stricter figures are there; and so what is asked of a pass.
+abbrev added : tie.After-turn-leasts → tie.After-add-up
+added s = s .before .before .before .before .before .before .before .before .before
+
+-- The two arrays.
+abbrev ceilings : tie.After-turn-leasts → List ℕ
+ceilings s = s .before .before .before .turn-ceilings .last .1 .1 .1 .0
+
+abbrev leasts : tie.After-turn-leasts → List ℕ
+leasts s = s .turn-leasts .last .1 .1 .1 .0
+
 array-borrow-prefix-sums-2 : tie.Need-array-borrow-prefix-sums-2
 array-borrow-prefix-sums-2 c =
-    let a = c .before .before .before .before .before .before in
+    let a = added (c .before .before .before) in
     let z = begun a in
     front-room _ _ (z .no-sums .ensures) (omega arith) (few z) (left a) (a .add-up .ensures .0)
 
--- The sums, from where the stricter figures are there; and so what is asked of a pass.
-abbrev added : tie.After-strict-leasts → tie.After-add-up
-added s = s .before .before .before .before
+ceilings-long : (s : tie.After-turn-leasts)
+    → let h = length (start (begun (added s)) .args .upper .now) in h ≡ length (take h (ceilings s))
+ceilings-long s = sym (length-take-le _ _ (s .before .before .before .turn-ceilings .ensures .room))
 
-ceilings-long : (s : tie.After-strict-leasts)
-    → let h = length (start (begun (added s)) .args .upper .now) in h ≡ length (take h (s .before .strict-ceilings .result))
-ceilings-long s = sym (length-take-le _ _ (s .before .strict-ceilings .ensures .room))
-
-leasts-long : (s : tie.After-strict-leasts)
-    → let h = length (start (begun (added s)) .args .upper .now) in h ≡ length (take h (s .strict-leasts .result))
+leasts-long : (s : tie.After-turn-leasts)
+    → let h = length (start (begun (added s)) .args .upper .now) in h ≡ length (take h (leasts s))
 leasts-long s =
     let z = begun (added s) in
-    let room : length (start z .args .upper .now) ≤ length (s .strict-leasts .result) =
-    omega (arith, s .strict-leasts .ensures .room, start z .pre .0 .lowers) in
+    let room : length (start z .args .upper .now) ≤ length (leasts s) =
+    omega (arith, s .turn-leasts .ensures .room, start z .pre .0 .lowers) in
     sym (length-take-le _ _ room)
 
 pass-requires : tie.Need-pass-requires
 pass-requires c κs =
-    let s = c .before .before .before in
+    let s = c .before .before .before .before in
     let a = added s in
     let args = start (begun a) .args in
     let pre = start (begun a) .pre in
-    let kept = a .add-up .ensures .1 (not-false (a .add-up .result) (s .before .before .if1 .left)) in (
+    let kept = a .add-up .ensures .1 (not-false (a .add-up .result) (s .before .before .before .before .before .before .before .if1 .left)) in (
       strict-placed (args .upper .now) (args .lower .now) (args .unlimited) (args .closed-upper .now) (args .closed-lower .now)
-          (args .ticks .now) (pre .0) (pre .1 .0) (pre .1 .1 .0) (pre .1 .1 .1) _ _ (s .before .strict-ceilings .ensures)
-          (s .strict-leasts .ensures) (lent a) (sym (lent-long a)),
+          (args .ticks .now) (pre .0) (pre .1 .0) (pre .1 .1 .0) (pre .1 .1 .1) _ _ (s .before .before .before .turn-ceilings .ensures)
+          (s .turn-leasts .ensures) (lent a) (sym (lent-long a)),
       (
         omega (arith, pre .0 .fewer, ceilings-long s),
         subst (KeptSums (args .ticks .now) (length (args .ticks .now))) (sym (lent-is a)) kept,
@@ -83,13 +90,13 @@ pass-requires c κs =
 
 returns-2 : tie.Need-returns-2
 returns-2 c =
-    let s = c .before .before .before .before .before in
+    let s = c .before .before .before .before .before .before in
     let z = begun (added s) in
     let args = start z .args in
     let pre = start z .pre in
     first-pass (args .upper .now) (args .lower .now) (args .unlimited) (args .closed-upper .now) (args .closed-lower .now)
-    (args .ticks .now) (pre .0) (pre .1 .0) (pre .1 .1 .0) (pre .1 .1 .1) _ _ (s .before .strict-ceilings .ensures)
-    (s .strict-leasts .ensures) (args .counts .now) _ (c .before .pass .ensures)
+    (args .ticks .now) (pre .0) (pre .1 .0) (pre .1 .1 .0) (pre .1 .1 .1) _ _ (s .before .before .before .turn-ceilings .ensures)
+    (s .turn-leasts .ensures) (args .counts .now) _ (c .before .pass .ensures)
 
 pub count-passing-spec : {M : Type 1} → statement M
 count-passing-spec =
@@ -104,11 +111,15 @@ count-passing-spec =
     (λ c κs. search needs)
     (λ c κs. search needs)
     (λ c. search needs)
-    (λ c. ceilings-long (c .before))
+    (λ c κs. search needs)
     (λ c. search needs)
-    (λ c. leasts-long (c .before .before))
+    (λ c κs. search needs)
+    (λ c. search needs)
+    (λ c. ceilings-long (c .before .before))
+    (λ c. search needs)
+    (λ c. leasts-long (c .before .before .before))
     (λ c. search needs)
     array-borrow-prefix-sums-2
-    (λ c. lent-long (added (c .before .before .before)))
+    (λ c. lent-long (added (c .before .before .before .before)))
     pass-requires
     returns-2)
