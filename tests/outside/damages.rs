@@ -9,7 +9,7 @@ use crate::states::State;
 use crate::subject::{Subject, GENERATOR_WORDS, LIMIT, LONGEST_HORIZON, NO_COUNT};
 use crate::tally::{Tally, BUILT_BOTH, BUILT_COUNT, BUILT_LATER, BUILT_LOOK, BUILT_RUN, BUILT_TAKEN, BUILT_VERDICT, BUILT_WHY};
 use crate::tally::{GENERATOR_LENGTH, MONITOR_LENGTH};
-use crate::words::{Kind, CLOSED_LOWER_WORDS, CLOSED_UPPER_WORDS, FAILED_WORD, LOWER_WORDS, MARK_WORD, UPPER_WORDS};
+use crate::words::{Kind, CLOSED_LOWER_WORDS, CLOSED_UPPER_WORDS, FAILED_WORD, FIGURE_WORDS, LOWER_WORDS, MARK_WORD, UPPER_WORDS};
 use crate::{built, pairs};
 
 /// What question 12 finds first in words that are as many as they must be.
@@ -32,6 +32,7 @@ fn note_taken(words: &[u32], state: &State, tally: &mut Tally) {
     let over = |first: usize, from: usize, to: usize| words[first + from..first + to].iter().any(|&figure| figure > LIMIT);
     let past = |first: usize| over(first, horizon, LONGEST_HORIZON);
     let closed_inside = || over(CLOSED_UPPER_WORDS, 0, horizon) || over(CLOSED_LOWER_WORDS, 0, horizon);
+    let joined = |first: usize| words[first..first + horizon].iter().fold(0, |bits, figure| bits | figure) > LIMIT;
     let found = [
         past(UPPER_WORDS) || past(LOWER_WORDS),
         past(CLOSED_UPPER_WORDS) || past(CLOSED_LOWER_WORDS),
@@ -39,6 +40,7 @@ fn note_taken(words: &[u32], state: &State, tally: &mut Tally) {
         state.unlimited() && closed_inside(),
         words[MARK_WORD] > 1,
         words[FAILED_WORD] > 1,
+        !state.unlimited() && FIGURE_WORDS.into_iter().any(joined),
     ];
     let seen = (0..).zip(found).filter(|(_, found)| *found);
     seen.for_each(|(number, _)| tally.note(BUILT_TAKEN, number));

@@ -88,7 +88,11 @@ impl Faulty {
 
     pub fn over_limit(&self, lists: Lists, asker: Asker) -> bool {
         let limit = self.limit(lists.unlimited, asker);
-        let over = |list: &[u32]| list.iter().any(|&figure| figure > limit);
+        let joined = |list: &[u32]| list.iter().fold(0, |bits, figure| bits | figure);
+        let over = |list: &[u32]| match self.fault {
+            JoinedLimited => joined(list) > limit,
+            _ => list.iter().any(|&figure| figure > limit),
+        };
         let ceilings_asked = match (asker, self.fault) {
             (Asker::Closing, ClosingAsksCeilings) | (Asker::Opening, OpeningAsksCeilings) | (Asker::State, TwelveAsksCeilings) => true,
             _ => !lists.unlimited,

@@ -15,9 +15,6 @@ use crate::words::Kind;
 /// From so many ticks on a list is long.
 const LONG: usize = 1_000;
 
-/// From so many on, less than a horizon, one may do something else with what is left.
-pub const LATE: usize = 64;
-
 /// A history, the closed figures, and what a failed monitor failed with.
 pub struct Monitor {
     pub history: History,
@@ -48,7 +45,11 @@ impl Faulty {
         if self.has(EmptyTicksBefore) {
             return history.horizon();
         }
-        history.horizon().min(history.held.len() + 1)
+        let second_of_two = history.is_full() && history.ran_full % 2 == 1;
+        match self.fault {
+            SecondOfTwoShort if second_of_two => history.held.len().max(1),
+            _ => history.horizon().min(history.held.len() + 1),
+        }
     }
 
     /// The windows that the closed figures are looked at in.
@@ -161,9 +162,6 @@ impl Faulty {
 
     /// The figures as given go first, then the closed ones.
     fn ruling(&self, monitor: &Monitor, count: u32) -> u32 {
-        if self.has(SecondOfTwoPasses) && monitor.history.is_second_of_two() {
-            return PASSED;
-        }
         let figures = if self.has(ClosedAlone) {
             &monitor.closed
         } else {
@@ -185,7 +183,6 @@ impl Faulty {
             return match self.fault {
                 VerdictRepeated => monitor.failed,
                 LostRepeated if monitor.failed == LOST => LOST,
-                LateFailedPasses if monitor.history.ran == LATE => PASSED,
                 _ => ALREADY_FAILED,
             };
         }

@@ -18,8 +18,9 @@ pub struct History {
     summed: Vec<u32>,
     /// The sums of the last of them, that of none first.
     sums: Vec<i64>,
-    /// How many ticks of the list have run, and whether some sum of them was above the border.
+    /// How many ticks of the list have run, how many of them with as many held as can be, and whether some sum was above the border.
     pub ran: usize,
+    pub ran_full: usize,
     pub was_over: bool,
 }
 
@@ -33,9 +34,9 @@ impl History {
         self.sums[ticks.min(self.held.len())]
     }
 
-    /// Of ticks that are taken two at a time once all that can be held are.
-    pub fn is_second_of_two(&self) -> bool {
-        self.held.len() + 1 == self.horizon() && self.ran % 2 == 1
+    /// Whether as many ticks are held as can be.
+    pub fn is_full(&self) -> bool {
+        self.held.len() + 1 == self.horizon()
     }
 
     fn sum_up(&mut self) {
@@ -61,6 +62,7 @@ impl Faulty {
             summed,
             sums: Vec::new(),
             ran: 0,
+            ran_full: 0,
             was_over: false,
         };
         history.sum_up();

@@ -3,15 +3,15 @@
 
 use crate::faults::Fault::*;
 use crate::faulty_closing::{Faulty, Figures, Lists};
-use crate::faulty_monitor::{Monitor, LATE};
+use crate::faulty_monitor::Monitor;
 use crate::states::State;
 use crate::streams::Margin;
 use crate::subject::{ALREADY_FAILED, LONGEST_HORIZON, MONITOR_WORDS, NO_COUNT, PASSED};
-use crate::words::{Kind, CLOSED_LOWER_WORDS, CLOSED_UPPER_WORDS, FAILED_WORD, HELD_WORD, HORIZON_WORD};
+use crate::words::{Kind, CLOSED_LOWER_WORDS, CLOSED_UPPER_WORDS, FAILED_WORD, FIGURE_WORDS, HELD_WORD, HORIZON_WORD};
 use crate::words::{LOWER_WORDS, MARK_WORD, TICK_WORDS, UPPER_WORDS};
 
-/// The first of each 256 words that hold figures.
-const FIGURES: [usize; 4] = [UPPER_WORDS, LOWER_WORDS, CLOSED_UPPER_WORDS, CLOSED_LOWER_WORDS];
+/// How many ticks late a fault may come.
+const LATE: usize = 64;
 
 /// The lists that are lent to a run, beside its state.
 struct Lent<'a> {
@@ -33,7 +33,7 @@ impl Faulty {
     fn words_left(&self, horizon: usize) -> Vec<usize> {
         let past = |first: usize| first + horizon..first + LONGEST_HORIZON;
         match self.fault {
-            PastHorizonLeft => FIGURES.into_iter().flat_map(past).collect(),
+            PastHorizonLeft => FIGURE_WORDS.into_iter().flat_map(past).collect(),
             TicksLeft => (TICK_WORDS..TICK_WORDS + LONGEST_HORIZON).collect(),
             FailedLeft => vec![FAILED_WORD],
             _ => Vec::new(),
@@ -131,33 +131,52 @@ impl Faulty {
 
     /// One tick, with its margin where it is a monitor's and asked for.
     fn tick(&self, kind: Kind, monitor: &mut Monitor, entry: u32, asked: bool) -> (u32, Margin) {
+        let full = monitor.history.is_full();
         let came = match kind {
             Kind::Monitor => self.whole_tick(monitor, entry, asked),
             Kind::Generator => (self.generator_tick(&mut monitor.history, entry), Margin::default()),
         };
         monitor.history.ran += 1;
+        monitor.history.ran_full += usize::from(full);
         came
     }
 
-    /// Whether the margin of a tick after a rejection stays as it was.
-    fn leaves_margin(&self, place: usize) -> bool {
-        self.has(FailedMarginsLeft) || (self.has(LateFailedMarginsLeft) && place >= LATE)
+    /// Puts an answer and its margin into their places. A fault may come late, so many ticks after the first that did not pass.
+    fn put_answer(&self, place: usize, answer: u32, margin: i64, first: Option<usize>, lent: &mut Lent) {
+        let late = first.filter(|first| first + LATE <= place);
+        let before = lent.answers[place];
+        lent.answers[place] = answer;
+        match (late, self.fault) {
+            (Some(_), LateVerdictsLeft) => lent.answers[place] = before,
+            (Some(first), RejectionFilled) => lent.answers[first] = ALREADY_FAILED,
+            _ => {}
+        }
+        let left = match self.fault {
+            FailedMarginsLeft => answer == ALREADY_FAILED,
+            LateMarginsLeft => late.is_some(),
+            _ => false,
+        };
+        if let Some(entry) = lent.margins.get_mut(place).filter(|_| !left) {
+            *entry = margin;
+        }
     }
 
     /// The ticks of a run: how many it says there were.
     fn run_ticks(&self, kind: Kind, monitor: &mut Monitor, ran: usize, lent: &mut Lent) -> i64 {
         let more = if self.has(AllEntriesRun) { lent.entries.len() } else { ran };
-        let no_margins = self.has(MarginsWholeOrNone) && lent.margins.len() < ran;
+        if self.has(MarginsWholeOrNone) && lent.margins.len() < ran {
+            lent.margins = &mut [];
+        }
+        let mut first = None;
         for place in 0..more {
             let (answer, margin) = self.tick(kind, monitor, lent.entries[place], place < lent.margins.len());
             if place >= ran {
                 continue;
             }
-            lent.answers[place] = answer;
-            let left = no_margins || (answer == ALREADY_FAILED && self.leaves_margin(place));
-            if let Some(entry) = lent.margins.get_mut(place).filter(|_| !left) {
-                *entry = margin.smallest;
+            if kind == Kind::Monitor && answer != PASSED {
+                first = first.or(Some(place));
             }
+            self.put_answer(place, answer, margin.smallest, first, lent);
             match self.fault {
                 NoCountEnds if answer == NO_COUNT => return place as i64 + 1,
                 NoCountRefuses if answer == NO_COUNT => return -13,
@@ -203,7 +222,7 @@ impl Faulty {
             PastHeldZeroed => words[end..TICK_WORDS + LONGEST_HORIZON].fill(0),
             PastHorizonZeroed => {
                 let horizon = monitor.history.horizon();
-                FIGURES
+                FIGURE_WORDS
                     .iter()
                     .for_each(|first| words[first + horizon..first + LONGEST_HORIZON].fill(0));
             }

@@ -1,6 +1,6 @@
-//! Long lists: streams that pass for thousands of ticks, on figures that they just keep, and at the last one break exactly one window by
-//! one message. States built by hand have it in the figures as given, in the closed ones or in both, so that neither may be left out. And
-//! lists of choices as long, on closed pairs.
+//! Long lists: streams that pass for thousands of ticks, on figures that they just keep, and then break exactly one window by one message;
+//! what comes after that is up to 130 ticks. States built by hand have it in the figures as given, in the closed ones or in both, so that
+//! neither may be left out. And lists of choices as long, on closed pairs.
 
 use crate::built::{self, state_words};
 use crate::pair::Pair;
@@ -11,7 +11,9 @@ use crate::script_cases::choices;
 use crate::sendings::check_passed;
 use crate::streams::sum;
 use crate::subject::{Subject, GENERATOR_WORDS, LIMIT, LONGEST_HORIZON, LOST, PASSED, TOO_FEW, TOO_MANY};
-use crate::tally::{horizon_end, Tally, LONG_AFTER, LONG_FEW, LONG_LOST, LONG_MANY, LONG_SENT, LONG_TOTAL, LONG_UNLIMITED};
+use crate::tally::{
+    horizon_end, Tally, AFTER_REJECTION, LONG_AFTER, LONG_FEW, LONG_LOST, LONG_MANY, LONG_PLACE, LONG_SENT, LONG_TOTAL, LONG_UNLIMITED,
+};
 use crate::window_sums::{extremes, figures};
 use crate::words::Kind;
 use crate::{pairs, unlimited_pairs};
@@ -20,9 +22,6 @@ fn horizon(rng: &mut Rng) -> usize {
     let (short, any) = (rng.length(1, 4), rng.length(1, LONGEST_HORIZON));
     rng.pick(&[LONGEST_HORIZON, LONGEST_HORIZON, 255, 16, 17, short, any])
 }
-
-/// How many ticks come after the one that is rejected.
-const AFTER: &[usize] = &[0, 3, 62, 63, 64, 65, 130];
 
 fn length(rng: &mut Rng) -> usize {
     rng.length(1_300, 3_500)
@@ -37,7 +36,8 @@ enum Broken {
     Leasts,
 }
 
-/// A stream whose counts repeat after a window's length, so that every sum of that window is the same, but for the last tick.
+/// A stream whose counts repeat after a window's length, so that every sum of that window is the same, but for the last tick of the stream,
+/// which is the one that is rejected.
 struct Stream {
     counts: Vec<u32>,
     /// So many of them are held when the list begins.
@@ -119,6 +119,16 @@ impl Stream {
         words
     }
 
+    /// Where a tick of the list stands, if ticks are taken two at a time once all are held that can be: 0 first, 1 second, 2 alone.
+    fn place_of_two(&self, tick: usize, after: u32) -> u32 {
+        let second = (tick + 1 + self.held - self.horizon) % 2 == 1;
+        match after {
+            _ if second => 1,
+            0 => 2,
+            _ => 0,
+        }
+    }
+
     /// What the last tick must come to, and as what it is tallied.
     fn due(&self, broken: Broken) -> (u32, &'static str) {
         let window = self.window as u32;
@@ -135,9 +145,10 @@ impl Stream {
         let words = self.words(rng, broken);
         let mut counts = self.counts[self.held..].to_vec();
         let last = counts.len() - 1;
-        let after = rng.pick(AFTER);
-        counts.extend(rng.arbitrary(after));
-        tally.note(LONG_AFTER, after as u32);
+        let after = rng.pick(&AFTER_REJECTION);
+        counts.extend(rng.arbitrary(after as usize));
+        tally.note(LONG_AFTER, after);
+        tally.note(LONG_PLACE, self.place_of_two(last, after));
         let list = List::new(Kind::Monitor, &words, &counts)?;
         let (due, tallied) = self.due(broken);
         let (passed, rest) = list.trace.answers.split_at(last);
@@ -147,6 +158,7 @@ impl Stream {
         }
         tally.note(tallied, self.window as u32);
         tally.note(LONG_TOTAL, u32::from(sum(&counts[..last]) > u64::from(u32::MAX)));
+        list.check_without_margins(subject, rng, tally)?;
         match ticks {
             true => list.check_cuts(subject, rng, tally),
             false => list.check_pieces(subject, rng, tally),
@@ -171,7 +183,8 @@ pub fn compare_every_window(subject: &dyn Subject, rng: &mut Rng, tally: &mut Ta
             (Broken::Leasts, false),
         ];
         for (broken, more) in kinds {
-            Stream::new(rng, LONGEST_HORIZON, window, more, 600).check(subject, rng, broken, false, tally)?;
+            let length = rng.length(600, 601);
+            Stream::new(rng, LONGEST_HORIZON, window, more, length).check(subject, rng, broken, false, tally)?;
         }
     }
     Ok(())

@@ -17,6 +17,7 @@ enum Cut {
     Whole,
     Pieces,
     Ticks,
+    WithoutMargins,
 }
 
 /// How many entries a piece has, and how many answers and margins there is room for.
@@ -28,7 +29,7 @@ struct Piece {
 
 fn piece(rng: &mut Rng, cut: Cut, left: usize) -> Piece {
     let entries = match cut {
-        Cut::Whole => left,
+        Cut::Whole | Cut::WithoutMargins => left,
         Cut::Ticks => left.min(1),
         Cut::Pieces if rng.one_in(8) => 0,
         Cut::Pieces => {
@@ -43,6 +44,7 @@ fn piece(rng: &mut Rng, cut: Cut, left: usize) -> Piece {
     };
     let ticks = entries.min(room);
     let margins = match rng.below(4) {
+        _ if matches!(cut, Cut::WithoutMargins) => 0,
         0 => 0,
         1 => rng.length(0, ticks),
         2 => ticks + rng.length(1, 9),
@@ -128,6 +130,11 @@ impl List<'_> {
             }
             note_seam(self.kind, &words, tally);
         }
+    }
+
+    /// Whole, and no margin asked for.
+    pub fn check_without_margins(&self, subject: &dyn Subject, rng: &mut Rng, tally: &mut Tally) -> Result<(), String> {
+        self.check(subject, rng, Cut::WithoutMargins, tally)
     }
 
     /// Whole and in pieces.

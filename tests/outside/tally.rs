@@ -91,13 +91,13 @@ pub const JUDGED: &str = "a stream, by search (0 passed, 1 many, 2 few, 4 lost)"
 pub const EQUAL: &str = "two closures (0 differ, 1 equal)";
 pub const MONITOR_WORDS_OPENED: &str = "opening a monitor's words (0: opened)";
 pub const GENERATOR_WORDS_OPENED: &str = "opening a generator's words (0: opened)";
-pub const CUT: &str = "lists (0 whole, 1 in pieces, 2 tick by tick)";
+pub const CUT: &str = "lists (0 whole, 1 pieces, 2 ticks, 3 without margins)";
 pub const PIECE: &str = "room of a piece (0 none, 1 less, 2 as due, 3 more, 4 empty)";
 pub const MARGINS_ROOM: &str = "room for margins (0 none, 1 less, 2 as due, 3 more)";
 pub const SEAM: &str = "a seam (0 none held, 1 some; 2, 3 the same, failed)";
 pub const BUILT_RUN: &str = "runs on words by hand (0 ran, 12 refused)";
 pub const BUILT_WHY: &str = "12 for (length, sizes 1 to 3, figures 4, 5; 10 more: empty)";
-pub const BUILT_TAKEN: &str = "taken (past H 0, 1; without ceilings 2, 3; marks 4, 5)";
+pub const BUILT_TAKEN: &str = "taken (past H 0, 1; no ceilings 2, 3; marks 4, 5; bits 6)";
 pub const MONITOR_LENGTH: &str = "12 for a monitor's words of this number";
 pub const GENERATOR_LENGTH: &str = "12 for a generator's words of this number";
 pub const BUILT_VERDICT: &str = "the first tick on words by hand (0 to 4 verdicts)";
@@ -112,6 +112,7 @@ pub const LONG_FEW: &str = "too few after thousands of ticks, window";
 pub const LONG_LOST: &str = "lost after thousands of ticks, window";
 pub const LONG_UNLIMITED: &str = "too few after thousands without ceilings, window";
 pub const LONG_AFTER: &str = "ticks after the rejected one of a long list";
+pub const LONG_PLACE: &str = "it is, where two are taken (0 first, 1 second, 2 alone)";
 pub const LONG_TOTAL: &str = "a long list's counts (0 below 2^32, 1 above)";
 pub const LONG_SENT: &str = "thousands of ticks sent, horizon up to";
 pub const BORDER_COUNT: &str = "a count amid a list";
@@ -127,6 +128,9 @@ const HORIZONS: &[u32] = &[1, 2, 3, 4, 8, 12, 64, 255, 256];
 
 /// Windows that long lists must break.
 const LONG_WINDOWS: &[u32] = &[1, 16, 255, 256];
+
+/// How many ticks come after the one that is rejected: none, few, and about one and two times 64.
+pub const AFTER_REJECTION: [u32; 7] = [0, 3, 62, 63, 64, 65, 130];
 /// The powers of two from 29 to 32, each with one less, as much and one more.
 const POWERS: &[u32] = &[290, 291, 292, 300, 301, 302, 310, 311, 312, 320, 321, 322];
 
@@ -224,13 +228,13 @@ const DUE: &[(&str, &[u32])] = &[
     (UNLIMITED_RUN_TICK, &[0, 2, 3]),
     (MONITOR_WORDS_OPENED, &[0, 1, 2, 4, 5, 12]),
     (GENERATOR_WORDS_OPENED, &[0, 1, 2, 4, 12, 15]),
-    (CUT, &[0, 1, 2]),
+    (CUT, &[0, 1, 2, 3]),
     (PIECE, &[0, 1, 2, 3, 4]),
     (MARGINS_ROOM, &[0, 1, 2, 3]),
     (SEAM, &[0, 1, 2, 3]),
     (BUILT_RUN, &[0, 12]),
     (BUILT_WHY, &[0, 1, 2, 3, 4, 5, 10, 11, 12, 13, 14, 15]),
-    (BUILT_TAKEN, &[0, 1, 2, 3, 4, 5]),
+    (BUILT_TAKEN, &[0, 1, 2, 3, 4, 5, 6]),
     (MONITOR_LENGTH, &[0, 1, 770, 771, 772, 1_283, 1_285]),
     (GENERATOR_LENGTH, &[0, 1, 770, 772, 1_283, 1_284, 1_285]),
     (BUILT_VERDICT, &[0, 1, 2, 3, 4]),
@@ -244,7 +248,8 @@ const DUE: &[(&str, &[u32])] = &[
     (LONG_FEW, LONG_WINDOWS),
     (LONG_LOST, LONG_WINDOWS),
     (LONG_UNLIMITED, LONG_WINDOWS),
-    (LONG_AFTER, &[0, 3, 62, 63, 64, 65, 130]),
+    (LONG_AFTER, &AFTER_REJECTION),
+    (LONG_PLACE, &[0, 1, 2]),
     (LONG_TOTAL, &[0, 1]),
     (LONG_SENT, &[64, 255, 256]),
     (

@@ -15,6 +15,9 @@ pub const CLOSED_UPPER_WORDS: usize = 771;
 pub const CLOSED_LOWER_WORDS: usize = 1_027;
 pub const FAILED_WORD: usize = 1_283;
 
+/// The first of each 256 words that hold figures.
+pub const FIGURE_WORDS: [usize; 4] = [UPPER_WORDS, LOWER_WORDS, CLOSED_UPPER_WORDS, CLOSED_LOWER_WORDS];
+
 /// Which of the two states, so that the same can be put to both.
 #[derive(Clone, Copy, PartialEq)]
 pub enum Kind {

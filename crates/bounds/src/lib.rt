@@ -61,7 +61,7 @@ pub fn within_limit(figures: &[u32]) -> bool
 }
 
 // Whether no figure of a list is above a limit. Where the bits of all of them joined are not, none is, and joining takes the processor an
-// instruction for four figures. Only else they are compared, one by one.
+// instruction for four figures. Otherwise they are compared, one by one.
 fn within(figures: &[u32], limit: u32) -> bool
     ensures { λ r. ⌜ Tells r (FiguresWithin limit (now (figures .entry))) ⌝ }
 {
@@ -71,7 +71,7 @@ fn within(figures: &[u32], limit: u32) -> bool
     each_within(figures, limit)
 }
 
-// The bits that some figure has: no figure is above that number.
+// The bits that some figure has, as a number. All that is asked of it is that no figure is above it.
 fn joined(figures: &[u32]) -> u32
     ensures { λ r. ⌜ FiguresWithin r (now (figures .entry)) ⌝ }
 {

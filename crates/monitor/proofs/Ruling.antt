@@ -1,12 +1,12 @@
--- Laws over plain variables for what follows from the margin and a run of the judge: the ruling, the held ticks and the next state.
--- Assumes nothing.
+-- Laws over plain variables for what follows from looking at the figures as given and then at the closed ones: the ruling, the held ticks
+-- and the next state. Assumes nothing.
 use Rattle.laws.proofs.Base.{ℕ, zero, suc, _-_, _≤_, _≡_, refl, sym, ap, _∙_, subst, subst⁻¹, Bool, true, false, List, [], _∷_, _++_}
 use Rattle.laws.proofs.Base.{_⊎_, inl, inr, ⊎-elim, arith, length, getD, take, drop}
 use Rattle.laws.specs.Tests.{Each}
 use lib.IntN.{pos}
 use lib.Signed.{_<ℤ_, _≤ℤ_}
 use Rattle.curves.specs.Streams.{countLimit}
-use Rattle.curves.specs.Pairs.{Pair, pairOf}
+use Rattle.curves.specs.Pairs.{pairOf}
 use Rattle.curves.specs.Unlimited.{AnyPair, withMark, curvesOf}
 use Rattle.curves.specs.Ticks as ticks
 use Rattle.curves.specs.Margins.{Margin, Counted, Tightest}
@@ -29,7 +29,7 @@ use Rattle.monitor.specs.Monitoring.{judged, lost, ruled, judging, after
 use Rattle.monitor.specs.Margins.{noMargin, carried}
 use Rattle.monitor.specs.Answers.{verdictReply}
 use Rattle.monitor.specs.Steps.{marginAs, passesAs, unjudgedAs, atFirst, FoundOf, MeasuredOf, saidAs, KeptOrLost, RuledWhere}
-use Rattle.monitor.specs.Steps.{RuledAfter, ExaminedAfter, FitTo, SumsFit, HoldsWhere, HeldMore, HeldAsFound, Held, markAfter}
+use Rattle.monitor.specs.Steps.{RuledAfter, ExaminedAfter, Fits, FitsAfter, HoldsWhere, HeldMore, HeldAsFound, Held, markAfter}
 use Rattle.monitor.proofs.Said.{judging-bad, judging-failed, judging-legal, judging-unfailed}
 use Rattle.monitor.proofs.Said.{carried-bad, carried-failed, carried-judged}
 
@@ -95,7 +95,7 @@ measured-keeps v x r m t =
     subst (ticks.Right p ys) (passed-told (r .verdict) (verdictOn v x) (m .answer) (sym (m .passes) ∙ t)) (verdict? p ys .1)
 
 kept-fits : (us ls xs : List ℕ) (x : ℕ) → Legal (viewWith us ls false xs) → ticks.Keeps (pairOf us ls) (ticks.then xs x)
-    → FitTo (length xs) xs x
+    → Fits xs x
 kept-fits us ls xs x l K d h =
     let j : ticks.Judged (pairOf us ls) (ticks.then xs x) (suc d) =
     record { positive = omega arith; within = omega (arith, l .fewer); begun = omega (arith, length-then xs x) } in
@@ -135,7 +135,7 @@ module _ (earlier : Finding) (h : History) (a : Arrays h) (z : Sizes h) (x : ℕ
   abbrev held : List ℕ
   held = take (h .held) (h .ticks)
 
-  pub fits-sliced : SumsFit earlier (entries (h .held) (h .ticks)) x → SumsFit earlier held x
+  pub fits-sliced : FitsAfter earlier (entries (h .held) (h .ticks)) x → FitsAfter earlier held x
   fits-sliced f = rw (entries-take (h .held) (h .ticks) (ticks-room h a z)) at f
 
   pub examined-ruled : (r : Finding) → Legal (viewOf h) → RuledAfter earlier upper lower (h .unlimited) held x r
@@ -326,7 +326,7 @@ module _ (H : ℕ) (us ls : List ℕ) (k : ℕ) (xs cus cls : List ℕ) (f : Boo
           passed-found (seen false) x L e given m t r (followed given r _ _ false _ x t (m .margin .window-judged .positive) (c .ruled l))
 
   -- Where the tick passes by the figures as given, no sum is above them.
-  limited-fits : Given false → SumsFit given (entries k xs) x
+  limited-fits : Given false → FitsAfter given (entries k xs) x
   limited-fits g t w =
       elim (legal? (viewOf (history false))) [
         | no n ↦ absurd (either-way (given .passes) t (ap (λ q. q .passes) (g .refused n)))
@@ -351,7 +351,7 @@ module _ (H : ℕ) (us ls : List ℕ) (b : Bool) (k : ℕ) (xs cus cls : List �
   pub found-limited : b ≡ false → (r : Finding) → GivenBy b → ExaminedAfter given (historyOf H cus cls false k xs) x r → FoundBy b r
   found-limited e = rw e (limited-found H us ls k xs cus cls f x given)
 
-  pub fits-limited : b ≡ false → GivenBy b → SumsFit given (entries k xs) x
+  pub fits-limited : b ≡ false → GivenBy b → FitsAfter given (entries k xs) x
   fits-limited e = rw e (limited-fits H us ls k xs cus cls f x given)
 
 -- ---- the next state

@@ -111,8 +111,8 @@ saidAs v r = record { verdict = v; margin = r .margin; passes = passesAs v }
 abbrev pub KeptOrLost : Finding → Pair → List ℕ → Finding → Type 0
 KeptOrLost earlier p ys r = (Keeps p ys × (r ≡ saidAs Passed earlier)) ⊎ ((¬ Keeps p ys) × (r ≡ saidAs Lost earlier))
 
--- Figures and their mark after others, which found `earlier`: they count where the tick passes by those. While its margin has no
--- window, there are none before them.
+-- Figures and their mark after others, which found `earlier`: they count where the tick passes by those. While its margin is that of no
+-- window, there are none before them. Closed figures, which come after others, have ceilings, whatever the mark.
 abbrev pub RuledWhere : Bool → ℕ → Finding → List ℕ → List ℕ → Bool → List ℕ → ℕ → Finding → Type 0
 RuledWhere false w earlier us ls b xs x r = r ≡ earlier
 RuledWhere true zero earlier us ls b xs x r = MeasuredOf (viewWith us ls b xs) x r
@@ -128,13 +128,13 @@ pub record ExaminedAfter (earlier : Finding) (h : History) (x : ℕ) (r : Findin
       → RuledAfter earlier (entries (h .horizon) (h .upper)) (entries (h .horizon) (h .lower)) (h .unlimited)
       (entries (h .held) (h .ticks)) x r
 
--- A count fits 32 bits with as many of the ticks before it as there are in a window, up to n.
-abbrev pub FitTo : ℕ → List ℕ → ℕ → Type 0
-FitTo n xs x = (d : ℕ) → d ≤ n → last xs d + x ≤ countLimit
+-- A count fits 32 bits together with any number of the newest of the ticks before it.
+abbrev pub Fits : List ℕ → ℕ → Type 0
+Fits xs x = (d : ℕ) → d ≤ length xs → last xs d + x ≤ countLimit
 
--- Where a tick passes by other figures, which have ceilings, with all of them.
-abbrev pub SumsFit : Finding → List ℕ → ℕ → Type 0
-SumsFit earlier xs x = earlier .passes ≡ true → 1 ≤ earlier .margin .window → FitTo (length xs) xs x
+-- It does where the tick has passed by some figures, of which the margin tells: these have ceilings, and so limit every sum.
+abbrev pub FitsAfter : Finding → List ℕ → ℕ → Type 0
+FitsAfter earlier xs x = earlier .passes ≡ true → 1 ≤ earlier .margin .window → Fits xs x
 
 -- The smaller of a margin and that of another window, the first where they are equal.
 abbrev pub tighterOf : declared.Margin → ℤ → ℕ → declared.Margin

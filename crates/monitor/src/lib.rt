@@ -12,7 +12,7 @@ ghost use Rattle.curves.specs.Unlimited.{withMark};
 ghost use Rattle.history.specs.States.{entries, historyOf};
 ghost use Rattle.monitor.specs.Monitoring.{monitorOf, monitorViewOf};
 ghost use Rattle.monitor.specs.Promises.{MonitorOpened, MonitorTicked};
-ghost use Rattle.monitor.specs.Steps.{judgementOf, FoundOf, passesAs, unjudgedAs, atFirst, ExaminedAfter, SumsFit};
+ghost use Rattle.monitor.specs.Steps.{judgementOf, FoundOf, passesAs, unjudgedAs, atFirst, ExaminedAfter, FitsAfter};
 ghost use Rattle.monitor.specs.Steps.{HoldsWhere, Held, markAfter};
 
 // The longest horizon.
@@ -215,7 +215,7 @@ fn examine(
     ticks: &[u32; MAX_HORIZON],
     count: u32,
 ) -> Finding
-    requires { ⌜ SumsFit earlier (entries held (now ticks)) count ⌝ }
+    requires { ⌜ FitsAfter earlier (entries held (now ticks)) count ⌝ }
     ensures { λ r. ⌜ ExaminedAfter earlier
         (historyOf horizon (now (upper .entry)) (now (lower .entry)) unlimited held (now (ticks .entry))) count r ⌝ }
 {

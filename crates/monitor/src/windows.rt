@@ -13,10 +13,10 @@ ghost use Rattle.curves.specs.Questions.{result};
 ghost use Rattle.history.specs.Steps.{Slices, viewWith};
 ghost use Rattle.monitor.specs.Monitoring.{judged, verdictOn};
 ghost use Rattle.monitor.specs.Answers.{verdictReply};
-ghost use Rattle.monitor.specs.Steps.{marginAs, MeasuredOf, RuledAfter, SumsFit, FitTo, tighterOf, marginWith, windowLimit};
+ghost use Rattle.monitor.specs.Steps.{marginAs, MeasuredOf, RuledAfter, FitsAfter, Fits, tighterOf, marginWith, windowLimit};
 
-// What is found of a tick. The verdict tells whether it passes; that it stands apart keeps what becomes of a state free of the verdict's
-// cases, for each of which the compiler would otherwise copy it.
+// What is found of a tick. The verdict alone would tell whether it passes; but where the verdict's cases decide whether the tick is held,
+// the compiler copies the state for each of them.
 pub(crate) struct Finding {
     pub(crate) verdict: Verdict,
     pub(crate) margin: Margin,
@@ -29,9 +29,10 @@ pub(crate) struct Margin {
     pub(crate) window: usize,
 }
 
-// Looks at figures after others, which found `earlier`. The first are those as given: no margin has been found, and they give the
-// verdict and the margin. A tick that passes by them is lost where it does not keep the next ones, the closed figures. That it passes is
-// written anew, field by field: the processor waits for a finding that is copied whole just after its parts were written.
+// Looks at figures after others, which found `earlier`. The first are those as given: while `earlier` has the margin of no window there
+// were none before them, and they give the verdict and the margin. A tick that passes by them is lost where it does not keep the next ones,
+// the closed figures, which have ceilings. That it passes is written anew, field by field: the processor waits for a finding that is copied
+// whole just after its parts were written.
 pub(crate) fn rule(
     earlier: Finding,
     upper: &[u32],
@@ -41,7 +42,7 @@ pub(crate) fn rule(
     count: u32,
 ) -> Finding
     requires { ⌜ Slices (now upper) (now lower) (now ticks) ⌝ }
-    requires { ⌜ SumsFit earlier (now ticks) count ⌝ }
+    requires { ⌜ FitsAfter earlier (now ticks) count ⌝ }
     ensures { λ r. ⌜ RuledAfter earlier (now (upper .entry)) (now (lower .entry)) unlimited (now (ticks .entry)) count r ⌝ }
 {
     if !earlier.passes {
@@ -87,7 +88,7 @@ fn measure(upper: &[u32], lower: &[u32], unlimited: bool, ticks: &[u32], count: 
 }
 
 // Window after window, the shortest first; `sum` has the new tick and the d before it. Where the figures of a window cross it may be
-// outside both ways: 'too many' is looked at first, where there are ceilings.
+// outside both ways: 'too many' is looked at first, where there are ceilings. It is called where some window is outside, and then names one.
 fn judge(upper: &[u32], lower: &[u32], unlimited: bool, ticks: &[u32], count: u32) -> Verdict
     requires { ⌜ Slices (now upper) (now lower) (now ticks) ⌝ }
     ensures { λ r. ⌜ verdictReply r
@@ -177,10 +178,10 @@ fn margin_between(ceiling: u32, least: u32, unlimited: bool, sum: u64) -> i64
 // Whether every window keeps its figures, two of them a turn. The sums are known to fit 32 bits.
 fn keeps(upper: &[u32], lower: &[u32], ticks: &[u32], count: u32) -> bool
     requires { ⌜ Slices (now upper) (now lower) (now ticks) ⌝ }
-    requires { ⌜ FitTo (length (now ticks)) (now ticks) count ⌝ }
+    requires { ⌜ Fits (now ticks) count ⌝ }
     ensures { λ r. ⌜ Tells r (Keeps (pairOf (now (upper .entry)) (now (lower .entry))) (then (now (ticks .entry)) count)) ⌝ }
 {
-    if !inside(upper[0], lower[0], count) {
+    if !inside(lower[0], count, upper[0]) {
         return false;
     }
     let held = ticks.len();
@@ -190,7 +191,7 @@ fn keeps(upper: &[u32], lower: &[u32], ticks: &[u32], count: u32) -> bool
         let e = d + 1;
         let one = sum + ticks[held - 1 - d];
         sum = one + ticks[held - 1 - e];
-        if !(inside(upper[e], lower[e], one) & inside(upper[e + 1], lower[e + 1], sum)) {
+        if !(inside(lower[e], one, upper[e]) & inside(lower[e + 1], sum, upper[e + 1])) {
             return false;
         }
         d = e + 1;
@@ -199,11 +200,11 @@ fn keeps(upper: &[u32], lower: &[u32], ticks: &[u32], count: u32) -> bool
         return true;
     }
     let all = sum + ticks[held - 1 - d];
-    inside(upper[d + 1], lower[d + 1], all)
+    inside(lower[d + 1], all, upper[d + 1])
 }
 
 // Whether a sum is from its least to its ceiling.
-fn inside(ceiling: u32, least: u32, sum: u32) -> bool
+fn inside(least: u32, sum: u32, ceiling: u32) -> bool
     ensures { λ r. ⌜ Tells r ((least ≤ sum) × (sum ≤ ceiling)) ⌝ }
 {
     (least <= sum) & (sum <= ceiling)

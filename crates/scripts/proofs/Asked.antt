@@ -1,16 +1,16 @@
 -- Question 12 of words: the slices of the figures are those of the state that is spelled. Assumes nothing.
-use Rattle.laws.proofs.Base.{ℕ, suc, _+_, _-_, _≤_, _<_, _≡_, refl, sym, ap, _∙_, subst, subst⁻¹, Bool, true, false, _&&_, List, _↔_, arith}
-use Rattle.laws.proofs.Base.{length, take, drop, length-drop, length-take-le}
+use Rattle.laws.proofs.Base.{ℕ, _+_, _-_, _≤_, _<_, _≡_, sym, ap, _∙_, subst, subst⁻¹, Bool, true, false, _&&_, List, _↔_, arith}
+use Rattle.laws.proofs.Base.{length, take, drop}
 use Rattle.laws.specs.Tests.{Tells}
 use Rattle.laws.proofs.Tests.{tells-same, both-told}
 use Rattle.curves.specs.Pairs.{pairOf, horizon}
-use Rattle.curves.specs.Unlimited.{AnyPair, withMark, curvesOf, alike, AllWithin}
-use Rattle.bounds.specs.Bounds.{maxHorizon, figureLimit, question4, Bounded}
-use Rattle.history.specs.States.{View, entries, viewOf, Legal}
+use Rattle.curves.specs.Unlimited.{AnyPair, withMark, alike, AllWithin}
+use Rattle.bounds.specs.Bounds.{figureLimit, question4, Bounded}
+use Rattle.history.specs.States.{entries, viewOf, Legal}
 use Rattle.history.specs.Steps.{Slices, viewWith}
 use Rattle.history.proofs.Histories.{Sizes, horizon-seen, held-seen, legal-sizes}
-use Rattle.monitor.specs.Monitoring.{MonitorView, monitorView, closedIn, monitorViewOf, LegalMonitor}
-use Rattle.scripts.specs.Words.{markFrom, word, part, historyFrom, monitorFrom, generatorWords, monitorWords, LegalMonitorWords}
+use Rattle.monitor.specs.Monitoring.{monitorView, closedIn, monitorViewOf, LegalMonitor}
+use Rattle.scripts.specs.Words.{markFrom, word, part, historyFrom, monitorFrom, generatorWords, monitorWords}
 use Rattle.scripts.specs.Runs.{ClosedWithin, ClosedWords}
 use Rattle.scripts.proofs.Worded.{part-entries, part-length}
 

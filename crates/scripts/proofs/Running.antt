@@ -1,6 +1,6 @@
 -- A loop that answers the entries of a list one after the other, carrying a state, into another list. Assumes nothing.
-use Rattle.laws.proofs.Base.{ℕ, zero, suc, _+_, _-_, _≤_, _<_, _≡_, refl, true, sym, ap, _∙_, List, [], _∷_, _++_, map, arith, append-assoc, append-nil}
-use Rattle.laws.proofs.Base.{add-one, length, getD, set, take, drop, length-append, length-drop, drop-of-length-le, length-take-le}
+use Rattle.laws.proofs.Base.{ℕ, zero, suc, _+_, _-_, _≤_, _<_, _≡_, true, sym, ap, _∙_, List, [], _∷_, _++_, map, arith, append-assoc, append-nil}
+use Rattle.laws.proofs.Base.{add-one, length, getD, set, take, drop, length-append, drop-of-length-le, length-take-le}
 use Rattle.laws.proofs.Base.{drop-cons}
 use Rattle.laws.proofs.Base.{take-suc, take-all, set-at, decLt}
 use mathlib.Core.List.{map-append}

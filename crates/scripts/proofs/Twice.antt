@@ -1,13 +1,13 @@
 -- Laws over plain variables for two ticks that are added at once: the sums after the first, which are stored nowhere, and after the second.
 -- Assumes nothing.
-use Rattle.laws.proofs.Base.{ℕ, suc, _+_, _≤_, _<_, _≡_, sym, ap, _∙_, subst, Bool, true, _&&_, List, [], _∷_, _++_}
+use Rattle.laws.proofs.Base.{ℕ, _+_, _≤_, _<_, _≡_, sym, ap, _∙_, subst, Bool, true, _&&_, List, [], _∷_, _++_}
 use Rattle.laws.proofs.Base.{add-one, decLt, arith, length, getD, set, length-append, length-set, List·getD-append}
 use lib.Seq.{getD-at, getD-set-same, getD-set-other}
 use Rattle.laws.specs.Ranges.{table}
 use Rattle.laws.specs.Tests.{Tells}
 use Rattle.laws.proofs.Tests.{either-true, both-told, all-turn}
 use Rattle.laws.proofs.Table.{Filled, unfilled, stored, later, length-table, getD-table}
-use Rattle.scripts.specs.Steps.{sumLimit, LaterKept, Grown, GrownTwice}
+use Rattle.scripts.specs.Steps.{sumLimit, LaterKept, GrownTwice}
 use Rattle.scripts.proofs.Adding.{filled-entry}
 
 module _ (sums ceilings leasts : List ℕ) (x y : ℕ) where

@@ -15,8 +15,9 @@ ghost use Rattle.monitor.specs.Monitoring.{monitorView, closedIn, LegalMonitor}
 ghost use Rattle.scripts.specs.Steps.{sumLimit, KeptSums, strictCeiling, strictLeast, TurnedStrict};
 ghost use Rattle.scripts.specs.Steps.{LaterKept, Placed, Grown, GrownTwice, KeepFirst, KeepOn, PassesFirst};
 
-// How many counts, from the first on, certainly pass on a monitor that has not failed: all of them, or as far as sums in 32 bits can tell.
-// A tick passes where it keeps both the figures as given and the closed ones, so the stricter of the two are looked at alone.
+// How many counts, from the first on, certainly pass on a monitor that has not failed: all of them, or as many as are told by sums in 32
+// bits, two at a time. A tick passes where it keeps both the figures as given and the closed ones, so the stricter of the two are looked
+// at alone.
 pub(crate) fn count_passing(
     upper: &[u32],
     lower: &[u32],
@@ -54,7 +55,7 @@ pub(crate) fn count_passing(
 }
 
 // The ceilings turned round, the lower one of each window; where the pair has none, what no kept sum is above. The array is lent: one that
-// is handed back is copied, and copies were half of what a list of one count took at 16 windows.
+// is handed back is copied, which a list of one count would feel.
 fn turn_ceilings(upper: &[u32], unlimited: bool, closed_upper: &[u32], ceilings: &mut [u32])
     requires { ⌜ (length (now upper) ≤ length (now ceilings)) × (length (now «closed_upper») ≡ length (now upper)) ⌝ }
     ensures { λ _. ⌜ TurnedStrict (strictCeiling unlimited) (now (upper .entry)) (now («closed_upper» .entry)) (now (ceilings .exit)) ⌝ }
@@ -101,8 +102,8 @@ fn strict_least(given: u32, unlimited: bool, closed: u32) -> u32
 }
 
 // Adds count after count to the sums of the ticks before them, until a window is outside its figures, or a count is above the limit of the
-// sums: gives back how many there are before that. `first` is the place of the longest window that is judged; once that is the horizon,
-// two counts are added at a time.
+// sums: gives back how many it knows to be before that. `first` is the place of the longest window that is judged; once that is the
+// horizon, two counts are added at a time, and counted both or neither.
 fn pass(ceilings: &[u32], leasts: &[u32], sums: &mut [u32], ticks: &[u32], counts: &[u32]) -> usize
     requires { ⌜ Placed (now sums) (now ceilings) (now leasts) ⌝ }
     requires { ⌜ length (now ticks) < length (now ceilings) ⌝ }

@@ -7,7 +7,7 @@ ghost use Prim.Native.Nat.{_-_, _<_};
 ghost use lib.ListN.{length, getD, replicate};
 ghost use Rattle.scripts.specs.Steps.{KeptSums};
 
-// No larger sum is kept: 2^29, so that one of these and a count of as much are below 2^31, and can be compared as signed numbers.
+// No larger sum is kept: 2^29, so that one of these and two counts of as much are below 2^31, and can be compared as signed numbers.
 pub(crate) const SUM_LIMIT: u32 = 536_870_912;
 
 // As many entries as the longest horizon has sums, with that of no ticks.

@@ -1,6 +1,6 @@
 -- `monitor::examine_tick` meets its contract: the figures as given and then, where there are ceilings, the closed ones settle what is found.
 -- Assumes nothing.
-use Rattle.laws.proofs.Base.{ℕ, _≡_, ap, _∙_, subst, arith, needs}
+use Rattle.laws.proofs.Base.{_≡_, ap, _∙_, subst, arith, needs}
 use Rattle.history.specs.States.{historyOf}
 use Rattle.monitor.specs.declared.windows.Finding.{Finding}
 use Rattle.monitor.specs.Steps.{unjudgedAs, atFirst, ExaminedAfter}
