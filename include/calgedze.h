@@ -166,8 +166,8 @@ uint32_t calgedze_generator_open(const uint32_t *upper, size_t upper_length, con
  * Entry i of `verdicts`, for i below n, becomes the answer to the tick. Entry i of `margins`, for i below n and as far as there is room,
  * becomes its margin: how near the tick comes to the figures as given, the smallest over the windows that end there of ceiling minus sum
  * and sum minus least (without ceilings, of sum minus least alone), negative exactly with CALGEDZE_TOO_MANY and CALGEDZE_TOO_FEW, and 0
- * with CALGEDZE_ALREADY_FAILED. `margins` may be empty, or shorter than n; all other entries stay. A run with a place for a margin takes
- * as long as its ticks one by one, many times as long as a run without: give it no entries where you do not want them.
+ * with CALGEDZE_ALREADY_FAILED. `margins` may be empty, or shorter than n; all other entries stay. Until the monitor has failed, a run
+ * with a place for a margin takes many times as long as a run without: give it no entries where you do not want them.
  *
  * Of the state these words change, and all others stay: `held`, the first `held` words of `ticks`, and `failed`, which becomes 1 once a
  * tick is rejected, and stays as it was where it was set before. A tick that is rejected is not held. So days in pieces are one stream:

@@ -250,6 +250,7 @@ fn unjudged(verdict: Verdict) -> Finding
     }
 }
 
+// Whether a tick with this verdict passes.
 fn passes(verdict: Verdict) -> bool
     ensures { λ r. ⌜ r ≡ passesAs verdict ⌝ }
 {
