@@ -17,6 +17,7 @@ ghost use Rattle.rendering.specs.Rendering.{rendering};
 ghost use Rattle.rendering.specs.Answers.{renderingNumber};
 ghost use Rattle.scripts.specs.Words.{markFrom};
 ghost use Rattle.scripts.specs.Scripts.{opened, monitorOpened, generatorOpened, judged, judgedCounts, sent, sentChoices, looked};
+ghost use Rattle.preview.specs.Preview.{previewed, previewOf};
 ghost use Rattle.exports.specs.Boundary.{markBit, returned, closingReturned, readingReturned, reportReturned, reportInto};
 ghost use Rattle.exports.specs.Boundary.{lengthOr, renderedInto};
 ghost use Rattle.exports.specs.Steps.{closingCode, readingCode};
@@ -179,6 +180,15 @@ pub extern "C" fn calgedze_monitor_run(
         ≡ judgedCounts (now (state .entry)) (now (counts .entry)) (now (verdicts .entry)) (now (margins .entry)) ⌝ }
 {
     scripts::judge(state, counts, verdicts, margins)
+}
+
+// `preview::preview`.
+#[no_mangle]
+pub extern "C" fn calgedze_monitor_preview(state: &[u32], counts: &[u32], verdict: &mut u32) -> u64
+    ensures { λ r. ⌜ previewed r (now (verdict .exit))
+        ≡ previewOf (now (state .entry)) (now (counts .entry)) (now (verdict .entry)) ⌝ }
+{
+    preview::preview(state, counts, verdict)
 }
 
 // `scripts::open_generator`.

@@ -1,11 +1,11 @@
 -- What is proved of the functions that run lists of ticks.
 mod Coded
 mod Worded
-mod Pieces
+pub mod Pieces
 mod Asked
 mod Running
 mod Held
-mod Given
+pub mod Given
 mod Written
 mod Opened
 pub mod InPieces

@@ -1,0 +1,6 @@
+-- What is proved of previews.
+mod Fed
+mod Ran
+mod Turn
+pub mod Said
+mod Examples
