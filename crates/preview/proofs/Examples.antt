@@ -41,7 +41,8 @@ shown
     : (previewOf monitor (1 ∷ 1 ∷ 1 ∷ []) 7 ≡ previewed 3 0) × (previewOf monitor (1 ∷ 0 ∷ 9 ∷ []) 7 ≡ previewed 1 4_000)
     × (previewOf monitor (4 ∷ []) 7 ≡ previewed 0 1_001) × (previewOf monitor [] 7 ≡ previewed 0 0)
     × (previewOf failed [] 7 ≡ previewed 0 0) × (previewOf failed (1 ∷ []) 7 ≡ previewed 0 3_000)
-unfolding previewOf passesFirst rulings judging ask legalMonitor? legal? ⊎-map every every? Dec·and decLe decLt ℕ-discrete figure verdict? find rejected inside? judged? sum table
+unfolding previewOf passesFirst rulings judging ask legalMonitor? legal? ⊎-map every every? Dec·and decLe decLt ℕ-discrete figure
+    verdict? find rejected inside? judged? sum table
 shown = (refl, refl, refl, refl, refl, refl)
 
 -- 12 comes for an empty list, too, and the verdict stays as found: of a horizon of 0, and of a generator's words.

@@ -35,13 +35,16 @@ start c = c .before .before .before .before .before .before .before .before .bef
 abbrev head : tie.After-leading-passes Inv-loop μ-loop → tie.At-loop Inv-loop μ-loop
 head c = c .before .before .before .before .before .before .before .before .before .before
 
+abbrev ran : tie.After-leading-passes Inv-loop μ-loop → tie.After-run-piece Inv-loop μ-loop
+ran c = c .before .before .before .before .before
+
 turn : (c : tie.After-leading-passes Inv-loop μ-loop)
-    → Turned (monitorViewOf (monitorFrom (start c .args .words .now))) (start c .args .counts .now) (c .before .before .before .before .before .run-piece .last .0)
-    (c .before .before .before .before .before .run-piece .last .1 .1 .0) (head c .loop .i) (c .before .before .before .before .before .run-piece .result) (c .leading-passes .result)
+    → Turned (monitorViewOf (monitorFrom (start c .args .words .now))) (start c .args .counts .now) (ran c .run-piece .last .0)
+    (ran c .run-piece .last .1 .1 .0) (head c .loop .i) (ran c .run-piece .result) (c .leading-passes .result)
 turn c =
-    let ran = c .before .before .before .before .before .run-piece in
-    turned (monitorViewOf (monitorFrom (start c .args .words .now))) (start c .args .counts .now) (head c .loop .words) _ _ (head c .loop .i)
-    (length (head c .loop .verdicts)) (ran .result) (c .leading-passes .result) (head c .loop .inv .1) (c .before .before .before .before .before .before .before .before .before .loop-test .taken) (ran .ensures)
+    turned (monitorViewOf (monitorFrom (start c .args .words .now))) (start c .args .counts .now) (head c .loop .words) _ _
+    (head c .loop .i) (length (head c .loop .verdicts)) (ran c .run-piece .result) (c .leading-passes .result) (head c .loop .inv .1)
+    (c .before .before .before .before .before .before .before .before .before .loop-test .taken) (ran c .run-piece .ensures)
     (omega (arith, head c .loop .inv .0)) (search needs) (c .leading-passes .ensures)
 
 -- The place behind it is one of the list's.
