@@ -1,4 +1,4 @@
-//! Calls on words: an opening, a run and a look, each put to a subject and compared in all that it gives back and leaves. Every list has
+//! Calls on words: an opening, a run, a preview and a look, each put to a subject and compared in all that it gives back and leaves. Every list has
 //! entries on either side that no call may touch.
 
 use crate::pair::Pair;
@@ -146,6 +146,26 @@ pub fn check_opening(subject: &dyn Subject, rng: &mut Rng, kind: Kind, pair: &Pa
     let input = format!("opening {} on\n{}\n  words before {before:?}", kind.name(), pair.shown());
     let note = format!("(words are shown with the {MARGIN} before and after them)");
     Err(format!("{input}\nexpected {expected:?}\ncame {came:?}\n{note}"))
+}
+
+/// A preview puts one number, into the verdict that is lent for it; its lists must stay as they are.
+pub fn check_preview(subject: &dyn Subject, words: &[u32], counts: &[u32], due: Option<(usize, u32)>) -> Result<(), String> {
+    let lent = (padded(words, FILLER), padded(counts, FILLER));
+    let mut left = lent.clone();
+    let mut verdict = [FILLER; 3];
+    let number = subject.preview(inner(&mut left.0), inner(&mut left.1), &mut verdict[1]);
+    let expected = due.map_or((-12, FILLER), |(place, verdict)| (place as i64, verdict));
+    if (number, verdict) == (expected.0, [FILLER, expected.1, FILLER]) && left == lent {
+        return Ok(());
+    }
+    let lists = format!("words {words:?}\n  counts {counts:?}");
+    let came = format!(
+        "came {number} {verdict:?}, lists {}",
+        if left == lent { "as lent" } else { "changed" }
+    );
+    Err(format!(
+        "a preview\n  {lists}\nexpected {expected:?}\n{came}\n(the verdict stands between two others)"
+    ))
 }
 
 pub fn check_look(subject: &dyn Subject, words: &[u32]) -> Result<i64, String> {

@@ -130,6 +130,12 @@ pub const COMPARISONS: &[Comparison] = &[
         one: long_lists::compare_monitor,
     },
     Comparison {
+        name: "previews",
+        cases: 2_000,
+        sample: 40,
+        one: long_lists::compare_preview,
+    },
+    Comparison {
         name: "every window",
         cases: 1,
         sample: 0,

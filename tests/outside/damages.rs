@@ -1,14 +1,15 @@
-//! Runs and looks on words built by hand, damaged ones among them, and on lists of other lengths: what must be refused with 12 is, first
+//! Runs, previews and looks on words built by hand, damaged ones among them, and on lists of other lengths: what must be refused with 12 is, first
 //! of all and for an empty list too, and then nothing changes; and all else is what the reference comes to.
 
-use crate::calls::{self, check_look, Run};
+use crate::calls::{self, check_look, check_preview, Run};
 use crate::limits::note_both;
 use crate::random::Rng;
 use crate::script_cases::choices;
 use crate::states::State;
 use crate::subject::{Subject, GENERATOR_WORDS, LIMIT, LONGEST_HORIZON, NO_COUNT};
 use crate::tally::{Tally, BUILT_BOTH, BUILT_COUNT, BUILT_LATER, BUILT_LOOK, BUILT_RUN, BUILT_TAKEN, BUILT_VERDICT, BUILT_WHY};
-use crate::tally::{GENERATOR_LENGTH, MONITOR_LENGTH};
+use crate::tally::{GENERATOR_LENGTH, MONITOR_LENGTH, PREVIEW_BUILT};
+use crate::trace::Trace;
 use crate::words::{Kind, CLOSED_LOWER_WORDS, CLOSED_UPPER_WORDS, FAILED_WORD, FIGURE_WORDS, LOWER_WORDS, MARK_WORD, UPPER_WORDS};
 use crate::{built, pairs};
 
@@ -109,10 +110,30 @@ fn check_run(subject: &dyn Subject, rng: &mut Rng, kind: Kind, words: &[u32], li
     Ok(())
 }
 
+/// A preview on words of a length that may be another, of the counts or of none.
+fn check_tried(subject: &dyn Subject, rng: &mut Rng, words: &[u32], counts: &[u32], tally: &mut Tally) -> Result<(), String> {
+    let mut lent = words.to_vec();
+    lent.resize(calls::length(rng, Kind::Monitor), 0);
+    let counts = if rng.one_in(4) { &[] } else { counts };
+    let due = Trace::new(Kind::Monitor, &lent, counts, 0).map(|trace| trace.first_rejected(0, counts.len()));
+    let empty = if counts.is_empty() { 10 } else { 0 };
+    let failed = State::of_words(&lent).failed && counts.is_empty();
+    tally.note(
+        PREVIEW_BUILT,
+        match due {
+            None => 20 + empty,
+            Some(_) if failed => 11,
+            Some((_, verdict)) => verdict / 1_000 + empty,
+        },
+    );
+    check_preview(subject, &lent, counts, due)
+}
+
 pub fn compare(subject: &dyn Subject, rng: &mut Rng, tally: &mut Tally) -> Result<(), String> {
     let words = built::any(rng);
     let counts = built::counts(rng, &words);
     check_run(subject, rng, Kind::Monitor, &words, &counts, tally)?;
+    check_tried(subject, rng, &words, &counts, tally)?;
     let length = rng.length(0, 14);
     let choices = choices(rng, length);
     check_run(subject, rng, Kind::Generator, &words, &choices, tally)?;

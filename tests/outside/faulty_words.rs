@@ -1,4 +1,4 @@
-//! Openings, runs and looks with a fault, on words: what is taken from them and what is written back. What a tick comes to in between is in
+//! Openings, runs, previews and looks with a fault, on words: what is taken from them and what is written back. What a tick comes to in between is in
 //! `faulty_monitor` and `faulty_streams`.
 
 use crate::faults::Fault::*;
@@ -6,12 +6,15 @@ use crate::faulty_closing::{Faulty, Figures, Lists};
 use crate::faulty_monitor::Monitor;
 use crate::states::State;
 use crate::streams::Margin;
-use crate::subject::{ALREADY_FAILED, LONGEST_HORIZON, MONITOR_WORDS, NO_COUNT, PASSED};
+use crate::subject::{ALREADY_FAILED, LONGEST_HORIZON, LOST, MONITOR_WORDS, NO_COUNT, PASSED};
 use crate::words::{Kind, CLOSED_LOWER_WORDS, CLOSED_UPPER_WORDS, FAILED_WORD, FIGURE_WORDS, HELD_WORD, HORIZON_WORD};
 use crate::words::{LOWER_WORDS, MARK_WORD, TICK_WORDS, UPPER_WORDS};
 
 /// How many ticks late a fault may come.
 const LATE: usize = 64;
+
+/// How many counts of a preview a fault takes for all, or begins anew after.
+const TRIED: usize = 1_024;
 
 /// The lists that are lent to a run, beside its state.
 struct Lent<'a> {
@@ -248,6 +251,59 @@ impl Faulty {
             state.copy_from_slice(&words[..state.len()]);
         }
         number
+    }
+
+    /// What the counts of a preview are answered, on a copy of the state.
+    fn tried(&self, taken: &State, counts: &[u32]) -> Vec<u32> {
+        let fresh = || {
+            let mut monitor = self.monitor_of(taken);
+            if self.has(PreviewOfFailed) {
+                monitor.failed = PASSED;
+            }
+            monitor
+        };
+        let mut monitor = fresh();
+        let looked_at = if self.has(PreviewOfOnePiece) { TRIED } else { counts.len() };
+        let tried = counts.iter().take(looked_at).enumerate().map(|(place, &count)| {
+            let anew = match self.fault {
+                PreviewAnewEachPiece => place % TRIED == 0,
+                _ => self.has(PreviewEachAlone),
+            };
+            if anew {
+                monitor = fresh();
+            }
+            self.tick(Kind::Monitor, &mut monitor, count, false).0
+        });
+        tried.collect()
+    }
+
+    pub fn preview_on(&self, state: &[u32], counts: &[u32], verdict: &mut u32) -> i64 {
+        let Some(taken) = self.taken(Kind::Monitor, state) else {
+            match self.fault {
+                PreviewTwelveNotOfNone if counts.is_empty() => return 0,
+                PreviewClearsWithTwelve => *verdict = PASSED,
+                _ => {}
+            }
+            return -12;
+        };
+        let answers = self.tried(&taken, counts);
+        let rejects = |&answer: &u32| answer != PASSED && !(self.has(PreviewOverLost) && answer == LOST);
+        let place = match self.fault {
+            PreviewLastPlace => answers.iter().rposition(rejects),
+            _ => answers.iter().position(rejects),
+        };
+        let found = place.map_or(PASSED, |place| answers[place]);
+        match self.fault {
+            PreviewVerdictLeft if place.is_none() => {}
+            PreviewEmptyFails if counts.is_empty() && taken.failed => *verdict = ALREADY_FAILED,
+            PreviewWithoutWindow => *verdict = found - found % 1_000,
+            _ => *verdict = found,
+        }
+        match place {
+            Some(place) if self.has(PreviewFromOne) => place as i64 + 1,
+            Some(place) => place as i64,
+            None => counts.len() as i64,
+        }
     }
 
     pub fn look_at(&self, state: &[u32]) -> i64 {

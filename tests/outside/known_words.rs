@@ -1,4 +1,4 @@
-//! Words, runs, looks and texts with answers worked out beforehand.
+//! Words, runs, previews, looks and texts with answers worked out beforehand.
 
 use crate::subject::{Subject, GENERATOR_WORDS, LIMIT, MONITOR_WORDS, NO_COUNT};
 
@@ -111,7 +111,27 @@ fn check_texts(subject: &dyn Subject) -> Result<(), String> {
     Ok(())
 }
 
+/// On the published pair one message a tick passes. A tick without one is lost, one with four has too many.
+fn check_previews(subject: &dyn Subject) -> Result<(), String> {
+    let mut state = [0; MONITOR_WORDS];
+    expect("open", 0, subject.open_monitor(&[3, 6, 3, 12, 9], &[0, 0, 0, 0, 5], 0, &mut state))?;
+    let tried = |state: &[u32], counts: &[u32]| {
+        let mut verdict = 7;
+        (subject.preview(state, counts, &mut verdict), verdict)
+    };
+    expect("a preview of ones", (3, 0), tried(&state, &[1, 1, 1]))?;
+    expect("a preview of what is lost", (1, 4_000), tried(&state, &[1, 0, 9]))?;
+    expect("a preview of four", (0, 1_001), tried(&state, &[4]))?;
+    state[1_283] = 1;
+    expect("nothing tried on what has failed", (0, 0), tried(&state, &[]))?;
+    expect("one tried there", (0, 3_000), tried(&state, &[1]))?;
+    state[0] = 257;
+    expect("nothing tried on words that are no state", (-12, 7), tried(&state, &[]))?;
+    expect("nor on too few", (-12, 7), tried(&state[1..], &[1]))
+}
+
 pub fn check(subject: &dyn Subject) -> Result<(), String> {
+    check_previews(subject)?;
     check_margins(subject)?;
     check_stuck(subject)?;
     check_looks(subject)?;

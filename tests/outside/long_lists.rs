@@ -3,6 +3,7 @@
 //! neither may be left out. And lists of choices as long, on closed pairs.
 
 use crate::built::{self, state_words};
+use crate::calls::check_preview;
 use crate::pair::Pair;
 use crate::pieces::List;
 use crate::random::Rng;
@@ -13,6 +14,7 @@ use crate::streams::sum;
 use crate::subject::{Subject, GENERATOR_WORDS, LIMIT, LONGEST_HORIZON, LOST, PASSED, TOO_FEW, TOO_MANY};
 use crate::tally::{
     horizon_end, Tally, AFTER_REJECTION, LONG_AFTER, LONG_FEW, LONG_LOST, LONG_MANY, LONG_PLACE, LONG_SENT, LONG_TOTAL, LONG_UNLIMITED,
+    PREVIEW_PLACE, SEAMS,
 };
 use crate::window_sums::{extremes, figures};
 use crate::words::Kind;
@@ -44,6 +46,8 @@ struct Stream {
     held: usize,
     horizon: usize,
     window: usize,
+    /// What that window has before the last tick.
+    sum: u32,
     /// Whether the last tick has one message more, or one fewer.
     more: bool,
 }
@@ -61,6 +65,7 @@ impl Stream {
             held: rng.pick(&[0, horizon - 1, between]),
             horizon,
             window,
+            sum: period.iter().sum(),
             more,
         }
     }
@@ -88,11 +93,10 @@ impl Stream {
     /// The same with what every sum of the window is before the last tick, so that this breaks it.
     fn broken(&self, rng: &mut Rng, slack: u32) -> Pair {
         let mut pair = self.kept(rng, slack);
-        let sum = self.counts[..self.window].iter().sum();
         if self.more {
-            pair.upper[self.window - 1] = sum;
+            pair.upper[self.window - 1] = self.sum;
         } else {
-            pair.lower[self.window - 1] = sum;
+            pair.lower[self.window - 1] = self.sum;
         }
         pair
     }
@@ -164,6 +168,28 @@ impl Stream {
             false => list.check_pieces(subject, rng, tally),
         }
     }
+}
+
+/// A list that is tried: all before the rejected tick, and then with it.
+pub fn compare_preview(subject: &dyn Subject, rng: &mut Rng, tally: &mut Tally) -> Result<(), String> {
+    let horizon = horizon(rng);
+    let window = rng.length(1, horizon);
+    let more = rng.one_in(2);
+    let broken = if more { Broken::Both } else { Broken::Leasts };
+    let broken = rng.pick(&[Broken::Given, Broken::Closed, broken]);
+    let (held, place) = (rng.length(window - 1, horizon - 1), rng.pick(&SEAMS));
+    let stream = Stream {
+        held,
+        ..Stream::new(rng, horizon, window, more, held + place as usize + 1)
+    };
+    let words = stream.words(rng, broken);
+    let mut counts = stream.counts[held..].to_vec();
+    let after = rng.pick(&AFTER_REJECTION);
+    counts.extend(rng.arbitrary(after as usize));
+    tally.note(PREVIEW_PLACE, place);
+    let (due, passing) = (stream.due(broken).0, place as usize);
+    check_preview(subject, &words, &counts[..passing], Some((passing, PASSED)))?;
+    check_preview(subject, &words, &counts, Some((passing, due)))
 }
 
 pub fn compare_monitor(subject: &dyn Subject, rng: &mut Rng, tally: &mut Tally) -> Result<(), String> {

@@ -42,6 +42,10 @@ impl Subject for Faulty {
         self.run_on(Kind::Monitor, state, counts, verdicts, margins)
     }
 
+    fn preview(&self, state: &[u32], counts: &[u32], verdict: &mut u32) -> i64 {
+        self.preview_on(state, counts, verdict)
+    }
+
     fn run_generator(&self, state: &mut [u32], choices: &[u32], counts: &mut [u32]) -> i64 {
         self.run_on(Kind::Generator, state, choices, counts, &mut [])
     }

@@ -1,7 +1,8 @@
 //! Scripts whole, in random pieces and tick by tick, on the words that an opening wrote: verdicts, counts and margins, every word after
-//! each piece and every entry that must stay are what the trace of the whole says. So pieces are one stream.
+//! each piece and every entry that must stay are what the trace of the whole says, and so is the preview of each piece before it runs.
+//! So pieces are one stream.
 
-use crate::calls::{check_look, check_opening, Run};
+use crate::calls::{check_look, check_opening, check_preview, Run};
 use crate::random::Rng;
 use crate::script_cases;
 use crate::scripts::spoil_sometimes;
@@ -106,6 +107,15 @@ impl List<'_> {
         ))
     }
 
+    /// Before a piece runs its preview is what the whole says.
+    fn check_preview(&self, subject: &dyn Subject, words: &[u32], place: usize, entries: usize) -> Result<(), String> {
+        if self.kind == Kind::Generator {
+            return Ok(());
+        }
+        let due = self.trace.first_rejected(place, entries);
+        check_preview(subject, words, &self.entries[place..place + entries], Some(due))
+    }
+
     /// Cut in one way.
     fn check(&self, subject: &dyn Subject, rng: &mut Rng, cut: Cut, tally: &mut Tally) -> Result<(), String> {
         let mut words = self.words.to_vec();
@@ -120,6 +130,7 @@ impl List<'_> {
                 margins: piece.margins,
             };
             note(&run, tally);
+            self.check_preview(subject, &words, place, piece.entries)?;
             let mut came = run.check_part(subject, &self.trace, place)?;
             place += run.ticks();
             words = came.words().to_vec();

@@ -60,6 +60,8 @@ extern "C" {
         margins: *mut i64,
         margins_length: usize,
     ) -> i64;
+    fn calgedze_monitor_preview(state: *const u32, state_length: usize, counts: *const u32, counts_length: usize, verdict: *mut u32)
+        -> i64;
     fn calgedze_generator_run(
         state: *mut u32,
         state_length: usize,
@@ -142,6 +144,11 @@ impl Subject for Product {
                 margins.len(),
             )
         }
+    }
+
+    fn preview(&self, state: &[u32], counts: &[u32], verdict: &mut u32) -> i64 {
+        // SAFETY: as for closing; the verdict is no part of a slice.
+        unsafe { calgedze_monitor_preview(state.as_ptr(), state.len(), counts.as_ptr(), counts.len(), verdict) }
     }
 
     fn run_generator(&self, state: &mut [u32], choices: &[u32], counts: &mut [u32]) -> i64 {

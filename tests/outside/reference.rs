@@ -36,6 +36,10 @@ impl Subject for Reference {
         trace::run_on(Kind::Monitor, state, counts, verdicts, margins)
     }
 
+    fn preview(&self, state: &[u32], counts: &[u32], verdict: &mut u32) -> i64 {
+        trace::preview_on(state, counts, verdict)
+    }
+
     fn run_generator(&self, state: &mut [u32], choices: &[u32], counts: &mut [u32]) -> i64 {
         trace::run_on(Kind::Generator, state, choices, counts, &mut [])
     }

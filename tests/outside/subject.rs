@@ -1,4 +1,4 @@
-//! What is tested: nine operations on lists. The product is one implementor; the reference and every mutant are others.
+//! What is tested: ten operations on lists. The product is one implementor; the reference and every mutant are others.
 
 /// The greatest figure of a pair.
 pub const LIMIT: u32 = 16_776_960;
@@ -45,6 +45,7 @@ pub trait Subject: Sync {
     fn open_monitor(&self, upper: &[u32], lower: &[u32], mark: u32, state: &mut [u32]) -> u32;
     fn open_generator(&self, upper: &[u32], lower: &[u32], mark: u32, state: &mut [u32]) -> u32;
     fn run_monitor(&self, state: &mut [u32], counts: &[u32], verdicts: &mut [u32], margins: &mut [i64]) -> i64;
+    fn preview(&self, state: &[u32], counts: &[u32], verdict: &mut u32) -> i64;
     fn run_generator(&self, state: &mut [u32], choices: &[u32], counts: &mut [u32]) -> i64;
     fn look(&self, state: &[u32]) -> i64;
 

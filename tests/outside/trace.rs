@@ -76,6 +76,15 @@ impl Trace {
         self.answers.push(count.unwrap_or(NO_COUNT));
     }
 
+    /// Of so many entries from a place on, the first that is rejected, counted from there, and its verdict; or how many they are, and 0.
+    pub fn first_rejected(&self, from: usize, entries: usize) -> (usize, u32) {
+        let answers = self.answers[from..from + entries].iter().copied();
+        answers
+            .enumerate()
+            .find(|&(_, answer)| answer != PASSED)
+            .unwrap_or((entries, PASSED))
+    }
+
     /// The stream after so many entries.
     pub fn stream_after(&self, entries: usize) -> &[u32] {
         &self.stream[..self.lengths[entries]]
@@ -110,6 +119,16 @@ pub fn run_on(kind: Kind, state: &mut [u32], entries: &[u32], answers: &mut [u32
     margins[..trace.margins.len()].copy_from_slice(&trace.margins);
     state.copy_from_slice(&trace.words_after(ran));
     ran as i64
+}
+
+/// The place of the first count that does not pass, and its verdict; where all do, their number and that of a pass.
+pub fn preview_on(state: &[u32], counts: &[u32], verdict: &mut u32) -> i64 {
+    let Some(trace) = Trace::new(Kind::Monitor, state, counts, 0) else {
+        return -12;
+    };
+    let (place, found) = trace.first_rejected(0, counts.len());
+    *verdict = found;
+    place as i64
 }
 
 pub fn look_at(state: &[u32]) -> i64 {

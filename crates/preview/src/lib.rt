@@ -48,16 +48,11 @@ fn no_words() -> [u32; MONITOR_WORDS]
 fn is_monitor(words: &mut [u32]) -> bool
     ensures { λ r. ⌜ Asked (now (words .entry)) (now (words .exit)) r ⌝ }
 {
-    let no_counts = [0u32; 1];
-    let mut no_verdicts = [0u32; 1];
-    let mut no_margins = [0i64; 1];
-    scripts::judge(
-        words,
-        &no_counts[..0],
-        &mut no_verdicts[..0],
-        &mut no_margins[..0],
-    )
-        != BAD_STATE
+    let counts = [0u32; 1];
+    let mut verdicts = [0u32; 1];
+    let mut margins = [0i64; 1];
+    let ran = scripts::judge(words, &counts[..0], &mut verdicts[..0], &mut margins[..0]);
+    ran != BAD_STATE
 }
 
 // The same as `preview`, where the words are a state; they are changed.
@@ -103,7 +98,8 @@ fn leading_passes(verdicts: &[u32]) -> usize
 {
     let mut i = 0;
     while i < verdicts.len() {
-        if verdicts[i] != PASSED {
+        let verdict = verdicts[i];
+        if verdict != PASSED {
             return i;
         }
         i += 1;
