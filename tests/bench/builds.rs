@@ -1,7 +1,7 @@
 //! The fastest forms as contenders: built for any machine, and built with wider instructions.
 
-use crate::contender::{Contender, State};
-use crate::fastest::{close_core, generate_core, generator_core, judge_core, monitor, read_core, Generator, Monitor};
+use crate::contender::{Contender, Preview, State};
+use crate::fastest::{close_core, generate_core, generator_core, judge_core, monitor, preview_core, read_core, Generator, Monitor};
 use crate::plain;
 use crate::subject::{refusal_of, LONGEST_HORIZON};
 
@@ -27,6 +27,11 @@ struct Judge {
     run: fn(&mut Monitor, &[u32], &mut [u32], &mut [i64]),
 }
 
+struct Tester {
+    state: Monitor,
+    run: fn(&Monitor, &[u32]) -> (usize, u32),
+}
+
 struct Sender {
     state: Generator,
     run: fn(&mut Generator, &[u32], &mut [u32]),
@@ -35,6 +40,12 @@ struct Sender {
 impl State for Judge {
     fn run(&mut self, counts: &[u32], verdicts: &mut [u32], margins: &mut [i64]) {
         (self.run)(&mut self.state, counts, verdicts, margins);
+    }
+}
+
+impl Preview for Tester {
+    fn preview(&self, counts: &[u32]) -> (usize, u32) {
+        (self.run)(&self.state, counts)
     }
 }
 
@@ -66,6 +77,15 @@ pub fn open_monitor(upper: &[u32], lower: &[u32]) -> Result<Box<dyn State>, u32>
     Ok(Box::new(Judge { state, run: judge }))
 }
 
+fn preview(state: &Monitor, counts: &[u32]) -> (usize, u32) {
+    preview_core(state, counts)
+}
+
+pub fn open_preview(upper: &[u32], lower: &[u32]) -> Result<Box<dyn Preview>, u32> {
+    let state = opened(upper, lower)?;
+    Ok(Box::new(Tester { state, run: preview }))
+}
+
 pub fn open_generator(upper: &[u32], lower: &[u32]) -> Result<Box<dyn State>, u32> {
     match plain::opening(upper, lower) {
         0 => {
@@ -78,7 +98,7 @@ pub fn open_generator(upper: &[u32], lower: &[u32]) -> Result<Box<dyn State>, u3
 
 #[cfg(target_arch = "x86_64")]
 mod wide {
-    use super::{close_core, generate_core, generator_core, judge_core, read_core, Generator, Monitor};
+    use super::{close_core, generate_core, generator_core, judge_core, preview_core, read_core, Generator, Monitor};
 
     #[target_feature(enable = "avx2")]
     pub fn close(upper: &[u32], lower: &[u32], closed_upper: &mut [u32], closed_lower: &mut [u32]) -> u64 {
@@ -88,6 +108,11 @@ mod wide {
     #[target_feature(enable = "avx2")]
     pub fn judge(state: &mut Monitor, counts: &[u32], verdicts: &mut [u32], margins: &mut [i64]) {
         judge_core(state, counts, verdicts, margins);
+    }
+
+    #[target_feature(enable = "avx2")]
+    pub fn preview(state: &Monitor, counts: &[u32]) -> (usize, u32) {
+        preview_core(state, counts)
     }
 
     #[target_feature(enable = "avx2")]
@@ -122,6 +147,11 @@ pub fn with_avx2() -> Option<Contender> {
             };
             let state = opened(upper, lower)?;
             Ok(Box::new(Judge { state, run }))
+        },
+        preview: |upper, lower| {
+            let run = |state: &Monitor, counts: &[u32]| unsafe { wide::preview(state, counts) };
+            let state = opened(upper, lower)?;
+            Ok(Box::new(Tester { state, run }))
         },
         generator: |upper, lower| {
             let run = |state: &mut Generator, choices: &[u32], counts: &mut [u32]| unsafe { wide::generate(state, choices, counts) };

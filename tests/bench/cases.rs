@@ -1,5 +1,6 @@
 //! What is timed. Each case gives back all that it got, so that the contenders' results can be compared.
 
+use std::hint::black_box;
 use std::time::{Duration, Instant};
 
 use crate::contender::{Contender, State};
@@ -9,6 +10,8 @@ use crate::subject::{Subject, LIMIT};
 /// How many ticks a list has, and how many are called one by one.
 const TICKS: usize = 200_000;
 const SINGLE_TICKS: usize = 20_000;
+/// How often a burst is tried.
+const BURSTS: usize = 2_000;
 
 pub struct Case {
     pub name: &'static str,
@@ -67,6 +70,32 @@ fn judge(case: &Case, contender: &Contender) -> Outcome {
 
 fn judge_with_margins(case: &Case, contender: &Contender) -> Outcome {
     run_list(case, (contender.monitor)(&case.upper, &case.lower), case.list.len())
+}
+
+/// A list that is tried so many times on a state that was opened before.
+fn preview(case: &Case, contender: &Contender, times: usize) -> Outcome {
+    let mut found = (0, 0);
+    let time = match (contender.preview)(&case.upper, &case.lower) {
+        Ok(state) => timed(|| (0..times).for_each(|_| found = state.preview(black_box(&case.list)))),
+        Err(number) => {
+            found.1 = number;
+            Duration::ZERO
+        }
+    };
+    Outcome {
+        results: vec![found.0 as u32, found.1],
+        time,
+    }
+}
+
+/// By the tick: one call.
+fn preview_list(case: &Case, contender: &Contender) -> Outcome {
+    preview(case, contender, 1)
+}
+
+/// By the call.
+fn preview_burst(case: &Case, contender: &Contender) -> Outcome {
+    preview(case, contender, case.calls)
 }
 
 fn generate(case: &Case, contender: &Contender) -> Outcome {
@@ -191,6 +220,21 @@ fn monitor(name: &'static str, horizon: u32) -> Case {
     case
 }
 
+/// The same stream, tried.
+fn tried(mut case: Case) -> Case {
+    case.run = preview_list;
+    case
+}
+
+/// Its first ten counts, and one that no curve lets pass.
+fn burst(mut case: Case) -> Case {
+    case.list.truncate(10);
+    case.list.push(LIMIT);
+    case.calls = BURSTS;
+    case.run = preview_burst;
+    case
+}
+
 /// With the margin of each tick.
 fn with_margins(mut case: Case) -> Case {
     case.run = judge_with_margins;
@@ -275,8 +319,12 @@ pub fn all() -> Vec<Case> {
         opening(),
         monitor("monitor list, 256", 256),
         monitor("monitor list, 16", 16),
-        with_margins(monitor("the same with margins, 256", 256)),
-        with_margins(monitor("the same with margins, 16", 16)),
+        tried(monitor("preview of a list, 256", 256)),
+        tried(monitor("preview of a list, 16", 16)),
+        burst(monitor("preview of a burst, 256", 256)),
+        burst(monitor("preview of a burst, 16", 16)),
+        with_margins(monitor("monitor with margins, 256", 256)),
+        with_margins(monitor("monitor with margins, 16", 16)),
         generator("generator list, 256", 256),
         generator("generator list, 16", 16),
         each(monitor("monitor one tick, 256", 256), judge_each),

@@ -1,7 +1,7 @@
 //! Those whose times are compared.
 
 use crate::product::Product;
-use crate::subject::{Subject, GENERATOR_WORDS, MONITOR_WORDS};
+use crate::subject::{Subject, GENERATOR_WORDS, MONITOR_WORDS, PASSED};
 use crate::{builds, plain};
 
 /// A monitor or a generator that was opened. Each contender keeps it in a form of its own.
@@ -23,10 +23,19 @@ type Close = fn(&[u32], &[u32], &mut [u32], &mut [u32]) -> u64;
 type Open = fn(&[u32], &[u32]) -> Result<Box<dyn State>, u32>;
 type Read = fn(&[u8], &mut [u32], &mut [u32]) -> u64;
 
+/// A monitor that was opened, and tries lists.
+pub trait Preview {
+    /// How many counts pass, from the first on, and the verdict on the one behind them, or that of a pass.
+    fn preview(&self, counts: &[u32]) -> (usize, u32);
+}
+
+type OpenPreview = fn(&[u32], &[u32]) -> Result<Box<dyn Preview>, u32>;
+
 pub struct Contender {
     pub name: &'static str,
     pub close: Close,
     pub monitor: Open,
+    pub preview: OpenPreview,
     pub generator: Open,
     pub read: Read,
 }
@@ -41,13 +50,21 @@ impl State for Monitor {
     }
 }
 
+impl Preview for Monitor {
+    fn preview(&self, counts: &[u32]) -> (usize, u32) {
+        let mut verdict = PASSED;
+        let place = Product.preview(&self.0, counts, &mut verdict);
+        (place as usize, verdict)
+    }
+}
+
 impl State for Generator {
     fn run(&mut self, list: &[u32], answers: &mut [u32], _: &mut [i64]) {
         Product.run_generator(&mut self.0, list, answers);
     }
 }
 
-fn open_monitor(upper: &[u32], lower: &[u32]) -> Result<Box<dyn State>, u32> {
+fn opened(upper: &[u32], lower: &[u32]) -> Result<Box<Monitor>, u32> {
     let mut state = Box::new(Monitor([0; MONITOR_WORDS]));
     match Product.open_monitor(upper, lower, 0, &mut state.0) {
         0 => Ok(state),
@@ -69,14 +86,16 @@ pub fn all() -> Vec<Contender> {
         Contender {
             name: "product",
             close: |upper, lower, closed_upper, closed_lower| Product.close(upper, lower, 0, closed_upper, closed_lower),
-            monitor: open_monitor,
+            monitor: |upper, lower| Ok(opened(upper, lower)?),
+            preview: |upper, lower| Ok(opened(upper, lower)?),
             generator: open_generator,
             read: |text, upper, lower| Product.read(text, upper, lower),
         },
         Contender {
             name: "plain",
             close: plain::close,
-            monitor: plain::open_monitor,
+            monitor: |upper, lower| Ok(plain::open_monitor(upper, lower)?),
+            preview: |upper, lower| Ok(plain::open_monitor(upper, lower)?),
             generator: plain::open_generator,
             read: plain::read,
         },
@@ -84,6 +103,7 @@ pub fn all() -> Vec<Contender> {
             name: "fastest",
             close: builds::close,
             monitor: builds::open_monitor,
+            preview: builds::open_preview,
             generator: builds::open_generator,
             read: builds::read,
         },

@@ -204,6 +204,25 @@ pub fn judge_core(monitor: &mut Monitor, counts: &[u32], verdicts: &mut [u32], m
     }
 }
 
+/// What passes does so by the closed curves, as above, until a count does not.
+#[inline(always)]
+pub fn preview_core(monitor: &Monitor, counts: &[u32]) -> (usize, u32) {
+    let (upper, lower) = (&monitor.upper[..monitor.horizon], &monitor.lower[..monitor.horizon]);
+    let closed = (&monitor.closed_upper[..monitor.horizon], &monitor.closed_lower[..monitor.horizon]);
+    if monitor.failed && !counts.is_empty() {
+        return (0, ALREADY_FAILED);
+    }
+    let mut ring = monitor.ring.clone();
+    for (place, &count) in counts.iter().enumerate() {
+        if count > LIMIT || outside(&ring, closed.0, closed.1, count) {
+            let verdict = verdict_and_margin(&ring, upper, lower, count).0;
+            return (place, if verdict == PASSED { LOST } else { verdict });
+        }
+        ring.hold(count);
+    }
+    (counts.len(), PASSED)
+}
+
 #[inline(always)]
 fn range(ring: &Ring, upper: &[u32], lower: &[u32]) -> (i32, i32) {
     let (before, latest) = ring.before();

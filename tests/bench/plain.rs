@@ -2,7 +2,7 @@
 //! that go in and come out by value and are asked about at each tick, also where a list has many; one pass over the text. No loop that
 //! matters has a bounds check.
 
-use crate::contender::State;
+use crate::contender::{Preview, State};
 use crate::subject::{
     answered, refusal_of, refused, ALREADY_FAILED, HEADER, LIMIT, LONGEST_HORIZON, LONGEST_TEXT, LOST, NO_COUNT, PASSED, TEXT_LIMIT,
     TOO_FEW, TOO_MANY,
@@ -199,7 +199,7 @@ impl History {
 }
 
 #[derive(Clone)]
-struct Monitor {
+pub struct Monitor {
     history: History,
     closed_upper: [u32; LONGEST_HORIZON],
     closed_lower: [u32; LONGEST_HORIZON],
@@ -269,7 +269,21 @@ impl State for Monitor {
     }
 }
 
-pub fn open_monitor(upper: &[u32], lower: &[u32]) -> Result<Box<dyn State>, u32> {
+impl Preview for Monitor {
+    fn preview(&self, counts: &[u32]) -> (usize, u32) {
+        let mut monitor = self.clone();
+        let mut verdict = PASSED;
+        for (place, count) in counts.iter().enumerate() {
+            (monitor, verdict) = monitor.tick(*count);
+            if verdict != PASSED {
+                return (place, verdict);
+            }
+        }
+        (counts.len(), verdict)
+    }
+}
+
+pub fn open_monitor(upper: &[u32], lower: &[u32]) -> Result<Box<Monitor>, u32> {
     let (mut closed_upper, mut closed_lower) = ([0; LONGEST_HORIZON], [0; LONGEST_HORIZON]);
     // The result lists are long enough for every horizon, so that this asks what the opening asks.
     let number = refusal_of(close(upper, lower, &mut closed_upper, &mut closed_lower));

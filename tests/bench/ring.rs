@@ -6,6 +6,7 @@ use crate::subject::LONGEST_HORIZON;
 /// How many sums are added before the last ones have to be copied back to the end.
 const ROOM: usize = 2_048;
 
+#[derive(Clone)]
 pub struct Ring {
     sums: [i32; ROOM + LONGEST_HORIZON],
     /// Where the latest sum stands; those before it follow.
