@@ -1,11 +1,12 @@
 /*
  * Calgedze for C and for whatever calls C: close a pair of arrival curves, read a pair from constraint text and write it, report a text's
- * closed curves, judge a stream of counts, generate one. Link libexports.a, which `rt staticlib exports` writes.
+ * closed curves, judge a stream of counts or try one first, generate one. Link libexports.a, which `rt staticlib exports` writes.
  *
  * Every call ends, whatever the lengths and contents of its lists. A list is a pointer and a number of entries, fewer than 2^63, so that
  * a number that counts entries is never negative, as a refusal is; the pointer is never null, not even for no entries, and aligned for its
- * entries, which are in the machine's byte order; and a list that a call writes overlaps no other list of the call. A pair is two lists
- * of figures, the upper curve (ceilings) and the lower (leasts), entry 0 of each being that of the window of one tick; and a mark.
+ * entries, which are in the machine's byte order; and a list that a call writes overlaps no other list of the call. `verdict`, the one
+ * pointer without a number of entries, is as one to a list of one. A pair is two lists of figures, the upper curve (ceilings) and the lower
+ * (leasts), entry 0 of each being that of the window of one tick; and a mark.
  *
  * The mark, `unlimited`, says that the pair has no ceilings: any number but 0 sets it. The upper list must still be a list of as many
  * entries as the lower one; what they hold has no effect, and no call writes ceilings of such a pair.
@@ -14,7 +15,7 @@
  * Where several numbers apply, the call is refused with the one that stands first in its own list below. How the number comes back:
  *   calgedze_close, calgedze_read                       in the upper half of the answer: CALGEDZE_REFUSAL(answer) is not 0
  *   calgedze_monitor_open, calgedze_generator_open      as it is: what comes back is not 0
- *   calgedze_render and the runs and looks on a state   with a minus sign: what comes back is negative
+ *   calgedze_render and all other calls on a state      with a minus sign: what comes back is negative
  *   calgedze_report                                     in the text that it writes
  *
  * Threads: the library has no state of its own. Calls on different lists may run at the same time; two calls that share a list, one of
@@ -108,8 +109,8 @@ int64_t calgedze_render(const uint32_t *upper, size_t upper_length, const uint32
  *
  * A mark is set where its word is not 0. Any words are legal input: a call refuses with 12 a list that is not as long as its struct (an
  * opening after its other questions), and words that are no state. Those are: a horizon that is not 1 to 256; as many held ticks as the
- * horizon or more; a figure above 16,776,960 among the first H of a list that has an effect. 12 comes before all else that a run or a
- * look could answer, also for lists without an entry, and then nothing changes.
+ * horizon or more; a figure above 16,776,960 among the first H of a list that has an effect. 12 comes before all else that a run, a
+ * preview or a look could answer, also for lists without an entry, and then nothing changes.
  */
 typedef struct calgedze_generator {
     uint32_t horizon, unlimited, upper[256], lower[256], held, ticks[256];
@@ -175,6 +176,18 @@ uint32_t calgedze_generator_open(const uint32_t *upper, size_t upper_length, con
  */
 int64_t calgedze_monitor_run(uint32_t *state, size_t state_length, const uint32_t *counts, size_t counts_length, uint32_t *verdicts,
                              size_t verdicts_length, int64_t *margins, size_t margins_length);
+
+/*
+ * What a monitor would say to the entries of `counts`, of which there may be any number: what calgedze_monitor_run would answer, told
+ * without a change to the state. Gives back how many counts pass, from the first on. Where these are all, `verdict` becomes
+ * CALGEDZE_PASSED. Else what comes back is the place of the first count that is rejected, 0 being that of the first entry, and `verdict`
+ * becomes the answer to it. An empty list passes, on a monitor that has failed too, where any other has CALGEDZE_ALREADY_FAILED at place
+ * 0. Or -12, and then `verdict` stays as it was.
+ *
+ * It takes about as long as a run without margins, with a place for a verdict of each count, would up to the rejected one.
+ */
+int64_t calgedze_monitor_preview(const uint32_t *state, size_t state_length, const uint32_t *counts, size_t counts_length,
+                                 uint32_t *verdict);
 
 /*
  * Gives a generator the entries of `choices`, one tick for each, in order, as far as `counts` has room. Gives back n, the number of ticks

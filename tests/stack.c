@@ -19,7 +19,7 @@
 #define STACK_BYTES (1 << 20)
 #define PAINT 0xa5
 #define WINDOWS 256
-#define TICKS 1000
+#define TICKS 1500
 #define LIMIT 16776960u
 #define LARGEST 4294967295u
 
@@ -135,6 +135,29 @@ static void reject(const char *name, const calgedze_monitor *from, uint32_t coun
     expect(name, kind, calgedze_verdict_kind(answers[0]));
 }
 
+/* How many of so many counts pass, on a state that stays as it is, and the verdict on the next, without its window. */
+static void preview(const char *name, const calgedze_monitor *from, size_t length, int64_t passing, uint32_t kind)
+{
+    uint32_t verdict = LARGEST;
+
+    expect(name, passing, calgedze_monitor_preview(CALGEDZE_STATE(from), counts, length, &verdict));
+    expect(name, kind, calgedze_verdict_kind(verdict));
+}
+
+/* More counts than are run at a time, and some that are rejected at the end, or at once. */
+static void run_monitor_preview(void)
+{
+    uint32_t verdict = LARGEST, last = counts[TICKS - 1];
+
+    preview("a list that passes", &monitor, TICKS, TICKS, CALGEDZE_PASSED);
+    counts[TICKS - 1] = LARGEST;
+    preview("a list that does not", &monitor, TICKS, TICKS - 1, CALGEDZE_TOO_MANY);
+    counts[TICKS - 1] = last;
+    preview("a list too few", &sporadic_monitor, TICKS, 0, CALGEDZE_TOO_FEW);
+    preview("an empty list", &monitor, 0, 0, CALGEDZE_PASSED);
+    expect("words that are no state", -12, calgedze_monitor_preview(CALGEDZE_STATE(&broken_monitor), counts, TICKS, &verdict));
+}
+
 static void run_monitor_run(void)
 {
     expect("a list of one", 1, calgedze_monitor_run(CALGEDZE_STATE(&monitor), counts, 1, answers, 1, margins, 0));
@@ -242,6 +265,7 @@ int main(void)
         {"generator_open", run_generator_open},
         {"generator_run", run_generator_run},
         {"generator_look", run_generator_look},
+        {"monitor_preview", run_monitor_preview},
         {"monitor_run", run_monitor_run},
     };
     size_t bytes[sizeof calls / sizeof *calls], count = sizeof calls / sizeof *calls;

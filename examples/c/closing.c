@@ -1,7 +1,7 @@
 /*
  * Closes a pair of arrival curves and shows how a refusal is told; opens a generator on curves as they are written, which is refused, and
- * on their closure, and judges what it sends, with margins; then a start that keeps its curves as they are written, and is lost. After
- * that a pair without ceilings; last, a long stream in pieces.
+ * on their closure, and judges what it sends, with margins; then a start that keeps its curves as they are written, and is lost; and tries
+ * two bursts before either is sent. After that a pair without ceilings; last, a long stream in pieces.
  *
  *     gcc -std=c99 -Iinclude examples/c/closing.c target/staticlib/libexports.a -o target/closing
  */
@@ -120,6 +120,43 @@ static void judge_and_print(const pair *curves, const uint32_t *counts, size_t l
     printf("\n");
 }
 
+/* Prints what a monitor would say to a burst. The monitor stays as it is. */
+static void try_and_print(const calgedze_monitor *monitor, const uint32_t *burst, size_t length)
+{
+    uint32_t verdict;
+    int64_t passing = calgedze_monitor_preview(CALGEDZE_STATE(monitor), burst, length, &verdict);
+
+    print_list("tried", burst, length);
+    if (passing < 0) {
+        print_refusal((uint32_t)-passing);
+        return;
+    }
+    if (verdict == CALGEDZE_PASSED)
+        printf("all pass\n");
+    else {
+        printf("place %lu:", (unsigned long)passing);
+        print_verdict(verdict);
+        printf("\n");
+    }
+}
+
+/* A monitor has passed some counts; two bursts that could follow are tried, and the one that passes is sent. */
+static int try_bursts(const pair *curves, const uint32_t *counts, size_t length)
+{
+    const uint32_t hasty[4] = {2, 1, 1, 2}, careful[4] = {2, 1, 0, 2};
+    uint32_t verdicts[LONGEST];
+    int64_t no_margins[1];
+    calgedze_monitor monitor;
+
+    if (open_monitor(curves, &monitor) != 0)
+        return 1;
+    calgedze_monitor_run(CALGEDZE_STATE(&monitor), counts, length, verdicts, length, no_margins, 0);
+    try_and_print(&monitor, hasty, 4);
+    try_and_print(&monitor, careful, 4);
+    calgedze_monitor_run(CALGEDZE_STATE(&monitor), careful, 4, verdicts, 4, no_margins, 0);
+    return verdicts[3] != CALGEDZE_PASSED;
+}
+
 /* Opens a generator and has it send a count for each choice; prints what it could send next. Gives back 1 where it opens. */
 static int generate(const pair *curves, const uint32_t *choices, uint32_t *counts, size_t length)
 {
@@ -223,5 +260,5 @@ int main(void)
     judge_and_print(&closed, bad, 6);
     /* On the first pair, as it is written: each window of these six ticks keeps its figures, but none that begins so goes on for ever. */
     judge_and_print(&one, lost, 6);
-    return sporadic() || long_stream(&closed);
+    return try_bursts(&closed, counts, 10) || sporadic() || long_stream(&closed);
 }

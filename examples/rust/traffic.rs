@@ -1,6 +1,6 @@
 //! Reads a constraint text and closes its curves; opens a generator on the curves as written, which is refused, and on the closed ones,
-//! and judges the twenty ticks that it sends; then a stream that goes wrong, and a start that keeps the curves as written and is lost.
-//! After that a text with leasts alone; at last a million ticks in pieces.
+//! and judges the twenty ticks that it sends; then a stream that goes wrong, and a start that keeps the curves as written and is lost; and
+//! tries two bursts before either is sent. After that a text with leasts alone; at last a million ticks in pieces.
 //!
 //!     rustc --edition 2021 examples/rust/traffic.rs -L native=target/staticlib -l static=exports -o target/traffic
 
@@ -52,6 +52,8 @@ extern "C" {
         margins: *mut i64,
         margins_length: usize,
     ) -> i64;
+    fn calgedze_monitor_preview(state: *const u32, state_length: usize, counts: *const u32, counts_length: usize, verdict: *mut u32)
+        -> i64;
     fn calgedze_generator_run(
         state: *mut u32,
         state_length: usize,
@@ -105,10 +107,11 @@ fn opened<T>(number: u32, state: T) -> Result<T, Refusal> {
     }
 }
 
-/// A run gives back the number of ticks, or that of its refusal, negative: 12, for words that are no state, which none of these are.
-fn ran(number: i64) -> Result<(), Refusal> {
+/// A run or a preview gives back a number of ticks, or that of its refusal, negative: 12, for words that are no state, which none of
+/// these are.
+fn ran(number: i64) -> Result<usize, Refusal> {
     match number {
-        0.. => Ok(()),
+        0.. => Ok(number as usize),
         number => Err(Refusal(-number as u32)),
     }
 }
@@ -201,6 +204,14 @@ impl Monitor {
         })?;
         Ok(verdicts.into_iter().map(verdict).zip(margins).collect())
     }
+
+    /// How many of these counts would pass, from the first on, and what it would say to the one behind them. It stays as it is.
+    fn preview(&self, counts: &[u32]) -> Result<(usize, Verdict), Refusal> {
+        let (words, ticks, mut entry) = (self.0.as_ptr(), counts.len(), 0);
+        // SAFETY: each pointer goes with the length of its list, and the verdict is no entry of either.
+        let passing = ran(unsafe { calgedze_monitor_preview(words, MONITOR_WORDS, counts.as_ptr(), ticks, &mut entry) })?;
+        Ok((passing, verdict(entry)))
+    }
 }
 
 fn verdict(entry: u32) -> Verdict {
@@ -255,13 +266,24 @@ fn run() -> Result<(), Refusal> {
     print_verdicts(&sent, &closed.monitor()?.judge(&sent)?);
 
     // The same traffic with two messages missing in tick 16: every window up to 7 ticks still has enough.
-    let mut wrong = sent;
+    let mut wrong = sent.clone();
     wrong[16] -= 2;
     print_verdicts(&wrong, &closed.monitor()?.judge(&wrong)?);
 
     // On the curves as written: 3 in four ticks keep every figure so far, but the next four have 6 at most, and eight need 10.
     let start = [2, 0, 1, 0, 2, 1];
     print_verdicts(&start, &given.monitor()?.judge(&start)?);
+
+    // Two bursts that could follow what was sent, tried before either is. Two ticks have 3 at most.
+    let mut monitor = given.monitor()?;
+    monitor.judge(&sent)?;
+    for burst in [[2, 1, 2, 2], [2, 1, 2, 1]] {
+        match monitor.preview(&burst)? {
+            (_, Verdict::Passed) => println!("tried {burst:?}: all would pass"),
+            (place, Verdict::TooMany(window)) => println!("tried {burst:?}: place {place} has too many in the window of {window}"),
+            (place, _) => println!("tried {burst:?}: place {place} would be rejected"),
+        }
+    }
     sporadic()?;
     long_stream(&given, &closed)
 }
