@@ -1,17 +1,18 @@
 -- What is said of previews. Assumes nothing.
-use Rattle.laws.proofs.Base.{ℕ, _≤_, _<_, _≡_, sym, ap, _∙_, subst, subst⁻¹, List, _↔_, arith, length, getD, decLt, take-all, []}
+use Rattle.laws.proofs.Base.{ℕ, _≤_, _<_, _≡_, sym, ap, _∙_, subst, subst⁻¹, List, _↔_, inl, inr, arith, length, getD, decLt, take-all, []}
 use lib.IntN.{ℤ}
 use lib.ListN.{List·getD-map, List·getD-eq-default}
 use Rattle.laws.proofs.Copying.{over-whole}
-use Rattle.monitor.specs.Monitoring.{MonitorView, monitorViewOf}
+use Rattle.curves.specs.Questions.{Reply}
+use Rattle.monitor.specs.Monitoring.{MonitorView, monitorViewOf, Ruling}
 use Rattle.monitor.specs.Calls.{rulings}
-use Rattle.scripts.specs.Codes.{rulingCode}
+use Rattle.scripts.specs.Codes.{minus, rulingCode}
 use Rattle.scripts.specs.Words.{monitorFrom, LegalMonitorWords}
 use Rattle.scripts.specs.Scripts.{Judged, judgedAll}
 use Rattle.scripts.proofs.Given.{judged-legal}
 use Rattle.preview.specs.Preview.{pass, passesFirst, Previewed, previewed, previewOf}
 use Rattle.preview.specs.Theorems.{fedAt, verdictsOf, NamesFirstRejected, AllPassIffFed, NamesFirstOfRun, AllPassIffRun}
-use Rattle.preview.specs.Theorems.{RefusedIfNoState, NeverPastList, EmptyPasses}
+use Rattle.preview.specs.Theorems.{AllPassOrOneNamed, RefusedIffNoState, EmptyPasses}
 use Rattle.preview.specs.Steps.{codes, LeadingZeros, Tried}
 use Rattle.preview.proofs.Fed.{zero-is-pass, leading-first, codes-length, code-at, preview-bad, preview-legal, tried-is}
 
@@ -111,6 +112,37 @@ all-pass-iff-fed ws xs found l =
       (λ z. all-iff ws xs found l .1 (λ i h. passes-at w xs i h .1 (z i h))),
     )
 
+pub all-pass-or-one-named : AllPassOrOneNamed
+all-pass-or-one-named ws xs found l =
+    elim (decLt n (length xs)) [
+      | yes h ↦ inr (n, v, omega (arith, leading-first rs .behind (omega (arith, many)), code), both)
+      | no h ↦
+          let e : n ≡ length xs = omega (arith, leading-first rs .within, many) in
+          let z : v ≡ 0 = sym code ∙ List·getD-eq-default cs 0 {n = n} (omega (arith, many)) in
+          inl (both ∙ (λ i. previewed (e i) (z i)))
+    ]
+  where
+    rs : List (Reply Ruling)
+    rs = rulings (monitorViewOf (monitorFrom ws)) xs
+
+    cs : List ℕ
+    cs = codes (monitorViewOf (monitorFrom ws)) xs
+
+    n : ℕ
+    n = passesFirst rs
+
+    v : ℕ
+    v = rulingCode (getD rs n pass)
+
+    many : length cs ≡ length xs
+    many = codes-length (monitorViewOf (monitorFrom ws)) xs
+
+    code : getD cs n 0 ≡ v
+    code = List·getD-map rulingCode rs n pass
+
+    both : previewOf ws xs found ≡ previewed n v
+    both = preview-legal ws xs found l
+
 -- ---- by a run
 run-verdicts : (ws xs vs : List ℕ) (ms : List ℤ) → LegalMonitorWords ws → length vs ≡ length xs
     → codes (monitorViewOf (monitorFrom ws)) xs ≡ verdictsOf ws xs vs ms
@@ -134,14 +166,18 @@ all-pass-iff-run ws xs vs ms found l e =
     (run-verdicts ws xs vs ms l e) (all-iff ws xs found l)
 
 -- ---- refused, or not
-pub refused-if-no-state : RefusedIfNoState
-refused-if-no-state = preview-bad
-
-pub never-past-list : NeverPastList
-never-past-list ws xs found l =
+past-none : (ws xs : List ℕ) (found : ℕ) → LegalMonitorWords ws → previewOf ws xs found .answer ≤ length xs
+past-none ws xs found l =
     let w = monitorViewOf (monitorFrom ws) in
     subst⁻¹ (λ (a : Previewed). a .answer ≤ length xs) (preview-legal ws xs found l)
     (omega (arith, leading-first (rulings w xs) .within, codes-length w xs))
+
+pub refused-iff-no-state : RefusedIffNoState
+refused-iff-no-state ws xs found short = (
+  (λ e l. let twelve : previewOf ws xs found .answer ≡ minus 12 = ap (λ (a : Previewed). a .answer) e in
+      omega (arith, short, twelve, past-none ws xs found l)),
+  preview-bad ws xs found,
+)
 
 pub empty-passes : EmptyPasses
 unfolding rulings passesFirst

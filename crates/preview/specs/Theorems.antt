@@ -1,8 +1,8 @@
 -- What is proved of a preview: that it is what feeding the list comes to, tick by tick, and as a list.
-use Prim.Native.Nat.{ℕ, _≤_, _<_}
+use Prim.Native.Nat.{ℕ, _<_}
 use mathlib.Core.Path.{_≡_}
 use mathlib.Core.List.{List, []}
-use mathlib.Core.Logic.{_↔_}
+use mathlib.Core.Logic.{_↔_, _⊎_}
 use lib.IntN.{ℤ}
 use lib.ListN.{length, getD, take}
 use Rattle.curves.specs.Questions.{Reply}
@@ -35,6 +35,12 @@ AllPassIffFed =
     (ws xs : List ℕ) (found : ℕ) → LegalMonitorWords ws
     → (previewOf ws xs found ≡ previewed (length xs) 0) ↔ ((i : ℕ) → i < length xs → fedAt (monitorViewOf (monitorFrom ws)) xs i ≡ pass)
 
+-- One of the two is said of every list, so that a verdict of 0 alone tells that all pass.
+abbrev pub AllPassOrOneNamed : Type 0
+AllPassOrOneNamed =
+    (ws xs : List ℕ) (found : ℕ) → LegalMonitorWords ws
+    → (previewOf ws xs found ≡ previewed (length xs) 0) ⊎ ((k : ℕ) × (v : ℕ) × (0 < v) × (previewOf ws xs found ≡ previewed k v))
+
 -- Both by the call that feeds a list in earnest: the verdicts that it would leave, where there is a place for each.
 abbrev pub verdictsOf : List ℕ → List ℕ → List ℕ → List ℤ → List ℕ
 verdictsOf ws xs vs ms = judgedCounts ws xs vs ms .verdicts
@@ -50,12 +56,13 @@ AllPassIffRun =
     (ws xs vs : List ℕ) (ms : List ℤ) (found : ℕ) → LegalMonitorWords ws → length vs ≡ length xs
     → (previewOf ws xs found ≡ previewed (length xs) 0) ↔ ((i : ℕ) → i < length xs → getD (verdictsOf ws xs vs ms) i 0 ≡ 0)
 
--- Nothing is refused but words that are no state, and these whatever the list. An empty list passes on every state, a failed one too.
-abbrev pub RefusedIfNoState : Type 0
-RefusedIfNoState = (ws xs : List ℕ) (found : ℕ) → ¬ LegalMonitorWords ws → previewOf ws xs found ≡ previewed (minus 12) found
+-- It is refused, with 12 and the verdict as found, exactly where the words are no state: whatever the list, of fewer than 2^63 counts, as
+-- every list in a memory has.
+abbrev pub RefusedIffNoState : Type 0
+RefusedIffNoState =
+    (ws xs : List ℕ) (found : ℕ) → length xs < 9_223_372_036_854_775_808
+    → (previewOf ws xs found ≡ previewed (minus 12) found) ↔ (¬ LegalMonitorWords ws)
 
-abbrev pub NeverPastList : Type 0
-NeverPastList = (ws xs : List ℕ) (found : ℕ) → LegalMonitorWords ws → previewOf ws xs found .answer ≤ length xs
-
+-- An empty list passes on every state, also on one that has failed.
 abbrev pub EmptyPasses : Type 0
 EmptyPasses = (ws : List ℕ) (found : ℕ) → LegalMonitorWords ws → previewOf ws [] found ≡ previewed 0 0
