@@ -13,15 +13,15 @@ use Rattle.monitor.specs.Monitoring.{judged, alreadyFailed, judging, legalMonit
 use Rattle.monitor.specs.Calls.{rulings}
 use Rattle.scripts.specs.Codes.{minus}
 use Rattle.scripts.specs.Words.{openedWords, closedWords}
-use Rattle.preview.specs.Preview.{pass, passesFirst, firstRejected, previewed, previewOf}
+use Rattle.preview.specs.Preview.{pass, leadingPasses, answerBehind, previewed, previewOf}
 
 -- The place of the first that is turned down, counted from 0, and what is answered there; those behind it do not count.
-first-of-many : passesFirst (pass ∷ pass ∷ result (judged (tooMany 3)) ∷ result alreadyFailed ∷ []) ≡ 2
-unfolding passesFirst
+first-of-many : leadingPasses (pass ∷ pass ∷ result (judged (tooMany 3)) ∷ result alreadyFailed ∷ []) ≡ 2
+unfolding leadingPasses
 first-of-many = refl
 
-answer-there : firstRejected (pass ∷ pass ∷ result (judged (tooMany 3)) ∷ result alreadyFailed ∷ []) ≡ result (judged (tooMany 3))
-unfolding passesFirst
+answer-there : answerBehind (pass ∷ pass ∷ result (judged (tooMany 3)) ∷ result alreadyFailed ∷ []) ≡ result (judged (tooMany 3))
+unfolding leadingPasses
 answer-there = refl
 
 -- The published triples with their closure: one message a tick.
@@ -41,7 +41,7 @@ shown
     : (previewOf monitor (1 ∷ 1 ∷ 1 ∷ []) 7 ≡ previewed 3 0) × (previewOf monitor (1 ∷ 0 ∷ 9 ∷ []) 7 ≡ previewed 1 4_000)
     × (previewOf monitor (4 ∷ []) 7 ≡ previewed 0 1_001) × (previewOf monitor [] 7 ≡ previewed 0 0)
     × (previewOf failed [] 7 ≡ previewed 0 0) × (previewOf failed (1 ∷ []) 7 ≡ previewed 0 3_000)
-unfolding previewOf passesFirst rulings judging ask legalMonitor? legal? ⊎-map every every? Dec·and decLe decLt ℕ-discrete figure
+unfolding previewOf leadingPasses rulings judging ask legalMonitor? legal? ⊎-map every every? Dec·and decLe decLt ℕ-discrete figure
     verdict? find rejected inside? judged? sum table
 shown = (refl, refl, refl, refl, refl, refl)
 

@@ -10,9 +10,9 @@ use Rattle.monitor.specs.Calls.{afterTick, afterTicks, rulings}
 use Rattle.scripts.specs.Codes.{minus, rulingCode}
 use Rattle.scripts.specs.Words.{monitorFrom, LegalMonitorWords}
 use Rattle.scripts.proofs.Pieces.{rulings-length}
-use Rattle.preview.specs.Preview.{pass, isPass, passesFirst, firstRejected, previewed, previewOf}
+use Rattle.preview.specs.Preview.{pass, isPass, leadingPasses, answerBehind, previewed, previewOf}
 use Rattle.preview.specs.Theorems.{fedAt}
-use Rattle.preview.specs.Steps.{codes, LeadingZeros, Tried}
+use Rattle.preview.specs.Steps.{LeadingZeros}
 
 -- ---- one answer
 -- It is a pass exactly where its number is 0.
@@ -42,12 +42,12 @@ later v vs n z =
       behind = λ h. z .behind (omega arith);
     }
 
-pub first-is : (rs : List (Reply Ruling)) (n : ℕ) → LeadingZeros (map rulingCode rs) n → passesFirst rs ≡ n
-unfolding passesFirst
+pub first-is : (rs : List (Reply Ruling)) (n : ℕ) → LeadingZeros (map rulingCode rs) n → leadingPasses rs ≡ n
+unfolding leadingPasses
 first-is [] n z = omega (arith, z .within)
-first-is (r ∷ rs) zero z = ap (λ b. cond b (suc (passesFirst rs)) 0) (no-pass r (z .behind (omega arith)))
+first-is (r ∷ rs) zero z = ap (λ b. cond b (suc (leadingPasses rs)) 0) (no-pass r (z .behind (omega arith)))
 first-is (r ∷ rs) (suc n) z =
-    ap (λ r. cond (isPass r) (suc (passesFirst rs)) 0) (zero-is-pass r (z .before 0 (omega arith)))
+    ap (λ r. cond (isPass r) (suc (leadingPasses rs)) 0) (zero-is-pass r (z .before 0 (omega arith)))
     ∙ ap suc (first-is rs n (later (rulingCode r) (map rulingCode rs) n z))
 
 -- And as many as are counted are 0.
@@ -62,10 +62,10 @@ one-more v vs n e z =
     before zero h = e
     before (suc i) h = z .before i (omega arith)
 
-pub leading-first : (rs : List (Reply Ruling)) → LeadingZeros (map rulingCode rs) (passesFirst rs)
-unfolding passesFirst
+pub leading-first : (rs : List (Reply Ruling)) → LeadingZeros (map rulingCode rs) (leadingPasses rs)
+unfolding leadingPasses
 leading-first [] = record { within = omega arith; before = λ i h. absurd (omega arith); behind = λ h. absurd (omega arith) }
-leading-first (result (judged passed) ∷ rs) = one-more 0 (map rulingCode rs) (passesFirst rs) refl (leading-first rs)
+leading-first (result (judged passed) ∷ rs) = one-more 0 (map rulingCode rs) (leadingPasses rs) refl (leading-first rs)
 leading-first (result (judged (tooMany d)) ∷ rs) = none-leading _ (map rulingCode rs) (omega arith)
 leading-first (result (judged (tooFew d)) ∷ rs) = none-leading _ (map rulingCode rs) (omega arith)
 leading-first (result lost ∷ rs) = none-leading _ (map rulingCode rs) (omega arith)
@@ -73,6 +73,10 @@ leading-first (result alreadyFailed ∷ rs) = none-leading _ (map rulingCode rs)
 leading-first (refusal n ∷ rs) = none-leading _ (map rulingCode rs) (omega arith)
 
 -- ---- lists
+-- What feeding a list is answered, as numbers.
+abbrev pub codes : MonitorView → List ℕ → List ℕ
+codes w xs = map rulingCode (rulings w xs)
+
 pub codes-length : (w : MonitorView) (xs : List ℕ) → length (codes w xs) ≡ length xs
 codes-length w xs = length-map (rulings w xs) rulingCode ∙ rulings-length w xs
 
@@ -110,11 +114,16 @@ unfolding previewOf
 preview-bad ws xs found n = said-no _ _ _ 12 (inl (refl, n))
 
 pub preview-legal : (ws xs : List ℕ) (found : ℕ) → LegalMonitorWords ws → let rs = rulings (monitorViewOf (monitorFrom ws)) xs in
-    previewOf ws xs found ≡ previewed (passesFirst rs) (rulingCode (firstRejected rs))
+    previewOf ws xs found ≡ previewed (leadingPasses rs) (rulingCode (answerBehind rs))
 unfolding previewOf
 preview-legal ws xs found l = said-yes _ _ _ _ (l, tt) (λ ys. refl)
 
--- What a list comes to is what is promised of it.
+-- Of the answers to a list that many are passes, from the first on, and v is the number of the one behind them.
+pub record Tried (w : MonitorView) (xs : List ℕ) (n v : ℕ) : Type 0 where
+  pub leading : LeadingZeros (codes w xs) n
+  pub there : v ≡ getD (codes w xs) n 0
+
+-- That is what is promised.
 pub tried-is : (ws xs : List ℕ) (found n v : ℕ) → LegalMonitorWords ws → Tried (monitorViewOf (monitorFrom ws)) xs n v
     → previewed n v ≡ previewOf ws xs found
 tried-is ws xs found n v l t =
@@ -125,5 +134,5 @@ tried-is ws xs found n v l t =
     rs : List (Reply Ruling)
     rs = rulings (monitorViewOf (monitorFrom ws)) xs
 
-    first : passesFirst rs ≡ n
+    first : leadingPasses rs ≡ n
     first = first-is rs n (t .leading)

@@ -10,11 +10,11 @@ use Rattle.scripts.specs.Codes.{minus, rulingCode}
 use Rattle.scripts.specs.Words.{monitorFrom, LegalMonitorWords}
 use Rattle.scripts.specs.Scripts.{Judged, judgedAll}
 use Rattle.scripts.proofs.Given.{judged-legal}
-use Rattle.preview.specs.Preview.{pass, passesFirst, Previewed, previewed, previewOf}
+use Rattle.preview.specs.Preview.{pass, leadingPasses, Previewed, previewed, previewOf}
 use Rattle.preview.specs.Theorems.{fedAt, verdictsOf, NamesFirstRejected, AllPassIffFed, NamesFirstOfRun, AllPassIffRun}
 use Rattle.preview.specs.Theorems.{AllPassOrOneNamed, RefusedIffNoState, EmptyPasses}
-use Rattle.preview.specs.Steps.{codes, LeadingZeros, Tried}
-use Rattle.preview.proofs.Fed.{zero-is-pass, leading-first, codes-length, code-at, preview-bad, preview-legal, tried-is}
+use Rattle.preview.specs.Steps.{LeadingZeros}
+use Rattle.preview.proofs.Fed.{codes, zero-is-pass, leading-first, codes-length, code-at, Tried, preview-bad, preview-legal, tried-is}
 
 -- ---- a preview, and the answers as numbers
 -- It is the number of those that are 0, from the first on, and the one behind them.
@@ -27,14 +27,14 @@ module _ (ws xs : List ℕ) (found n v : ℕ) (l : LegalMonitorWords ws) where
       record {
         leading = subst (LeadingZeros (codes w xs)) number (leading-first (rulings w xs));
         there =
-            sym (ap (λ (a : Previewed). a .verdict) both) ∙ sym (List·getD-map rulingCode (rulings w xs) (passesFirst (rulings w xs)) pass)
+            sym (ap (λ (a : Previewed). a .verdict) both) ∙ sym (List·getD-map rulingCode (rulings w xs) (leadingPasses (rulings w xs)) pass)
             ∙ ap (λ k. getD (codes w xs) k 0) number;
       }
     where
-      both : previewed (passesFirst (rulings w xs)) (rulingCode (getD (rulings w xs) (passesFirst (rulings w xs)) pass)) ≡ previewed n v
+      both : previewed (leadingPasses (rulings w xs)) (rulingCode (getD (rulings w xs) (leadingPasses (rulings w xs)) pass)) ≡ previewed n v
       both = sym (preview-legal ws xs found l) ∙ e
 
-      number : passesFirst (rulings w xs) ≡ n
+      number : leadingPasses (rulings w xs) ≡ n
       number = ap (λ (a : Previewed). a .answer) both
 
 -- Of a verdict that is not 0: those before it are.
@@ -81,25 +81,29 @@ passes-at w xs i h = (
 )
 
 pub names-first-rejected : NamesFirstRejected
-names-first-rejected ws xs found k v l p = (
-  (λ e. let z = first-iff ws xs found k v l p .0 e in
-      let h = inside (z .1) in
+names-first-rejected ws xs found k v l = (
+  (λ h. let z = first-iff ws xs found k v l (h .1) .0 (h .0) in
+      let within = inside (z .1) (h .1) in
       record {
-        within = h;
+        within = within;
         before = λ i g. passes-at w xs i (omega arith) .0 (z .0 i g);
-        there = sym (code-at w xs k h) ∙ z .1;
+        there = sym (code-at w xs k within) ∙ z .1;
+        no-pass = h .1;
       }),
-  (λ t. first-iff ws xs found k v l p .1 (
-    (λ i h. passes-at w xs i (omega (arith, t .within)) .1 (t .before i h)),
-    code-at w xs k (t .within) ∙ t .there,
+  (λ t. (
+    first-iff ws xs found k v l (t .no-pass) .1 (
+      (λ i h. passes-at w xs i (omega (arith, t .within)) .1 (t .before i h)),
+      code-at w xs k (t .within) ∙ t .there,
+    ),
+    t .no-pass,
   )),
 )
   where
     w : MonitorView
     w = monitorViewOf (monitorFrom ws)
 
-    inside : getD (codes w xs) k 0 ≡ v → k < length xs
-    inside e =
+    inside : getD (codes w xs) k 0 ≡ v → 0 < v → k < length xs
+    inside e p =
         elim (decLt k (length xs)) [
           | yes h ↦ h
           | no h ↦ absurd (omega (arith, e, List·getD-eq-default (codes w xs) 0 {n = k} (omega (arith, codes-length w xs))))
@@ -129,7 +133,7 @@ all-pass-or-one-named ws xs found l =
     cs = codes (monitorViewOf (monitorFrom ws)) xs
 
     n : ℕ
-    n = passesFirst rs
+    n = leadingPasses rs
 
     v : ℕ
     v = rulingCode (getD rs n pass)
@@ -180,5 +184,5 @@ refused-iff-no-state ws xs found short = (
 )
 
 pub empty-passes : EmptyPasses
-unfolding rulings passesFirst
+unfolding rulings leadingPasses
 empty-passes ws found l = preview-legal ws [] found l

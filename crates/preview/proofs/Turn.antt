@@ -1,19 +1,21 @@
 -- One more piece of a list: what is known of the answers to the whole list before it, and after it. Assumes nothing.
-use Rattle.laws.proofs.Base.{ℕ, _+_, _-_, _≤_, _<_, _≡_, refl, sym, ap, _∙_, subst, List, arith, length, getD, take, drop, length-drop}
+use Rattle.laws.proofs.Base.{ℕ, _+_, _-_, _≤_, _<_, _≡_, refl, sym, ap, _∙_, subst, subst⁻¹, min, List, arith, length, getD, take, drop, length-drop}
 use Rattle.laws.proofs.Base.{decLt, length-take-le, take-all}
 use lib.ListN.{List·getD-eq-default}
 use lib.Seq.{take-add, getD-take}
 use Rattle.monitor.specs.Monitoring.{MonitorView, monitorViewOf}
 use Rattle.monitor.specs.Calls.{afterTicks}
-use Rattle.scripts.specs.Words.{monitorFrom, LegalMonitorWords}
+use Rattle.scripts.specs.Codes.{minus}
+use Rattle.scripts.specs.Words.{monitorFrom, LegalMonitorWords, monitorQuestion12}
 use Rattle.scripts.proofs.Pieces.{after-append}
-use Rattle.preview.specs.Steps.{codes, Spells, Ran, LeadingZeros, Tried}
-use Rattle.preview.proofs.Fed.{codes-length, codes-drop}
+use Rattle.preview.specs.Steps.{RanAs, LeadingZeros}
+use Rattle.preview.proofs.Fed.{codes, codes-length, codes-drop, Tried}
+use Rattle.preview.proofs.Ran.{SpellsState, Ran, ran, refused}
 
 -- The first i of the answers to a list are passes, and the words spell the state that those ticks leave.
 pub record Passed (w : MonitorView) (xs : List ℕ) (i : ℕ) (ws : List ℕ) : Type 0 where
   pub within : i ≤ length xs
-  pub state : Spells ws (afterTicks w (take i xs))
+  pub state : SpellsState ws (afterTicks w (take i xs))
   pub passes : (k : ℕ) → k < i → getD (codes w xs) k 0 ≡ 0
 
 -- At first there are none of them.
@@ -35,16 +37,41 @@ all-pass w xs ws i h p =
       there = sym (List·getD-eq-default (codes w xs) 0 {n = i} (omega (arith, codes-length w xs)));
     }
 
+-- ---- question 12
+-- What is known before a piece runs: where the words that were lent are a state, that the counts before i have passed; where they are none,
+-- that they are as they were lent.
+pub record Begun (lent xs : List ℕ) (i : ℕ) (ws : List ℕ) : Type 0 where
+  pub passed : LegalMonitorWords lent → Passed (monitorViewOf (monitorFrom lent)) xs i ws
+  pub same : ¬ LegalMonitorWords lent → ws ≡ lent
+
+pub not-begun : (ws xs : List ℕ) → Begun ws xs 0 ws
+not-begun ws xs = record { passed = none-passed ws xs; same = λ n. refl }
+
+-- The piece runs exactly where they are a state.
+module _ (lent xs ws rest vs left after : List ℕ) (i r : ℕ) (before : Begun lent xs i ws) (e : RanAs ws rest vs left after r) where
+  pub refused-is : length vs ≡ 1_024 → r ≡ minus 12 → ¬ LegalMonitorWords lent
+  refused-is room z l =
+      let few : r ≡ min (length vs) (length rest) = ran ws rest vs left after r e (before .passed l .state .legal) .number in
+      omega (arith, few, z, room)
+
+  pub ran-is : ¬ (r ≡ minus 12) → LegalMonitorWords lent
+  ran-is h =
+      elim (monitorQuestion12 lent .answered) [
+        | yes l ↦ l
+        | no n ↦ absurd (h (refused ws rest vs left after r e (subst⁻¹ (λ t. ¬ LegalMonitorWords t) (before .same n) n)))
+      ]
+
+-- ---- a piece has run
 -- A piece of n ticks from i on, of which the first m pass.
 pub record Turned (w : MonitorView) (xs left after : List ℕ) (i n m : ℕ) : Type 0 where
-  pub some : 1 ≤ n
+  pub some : i + n < length xs → 1 ≤ n
   pub within : i + n ≤ length xs
   pub part : m ≤ n
   -- Where one does not, it is the first of all; else the list goes on behind the piece.
   pub rejects : m < n → Tried w xs (i + m) (getD after m 0)
   pub goes-on : n ≤ m → Passed w xs (i + n) left
 
-module _ (w : MonitorView) (xs ws left after : List ℕ) (i places n m : ℕ) (before : Passed w xs i ws) (more : i < length xs)
+module _ (w : MonitorView) (xs ws left after : List ℕ) (i places n m : ℕ) (before : Passed w xs i ws)
     (lent : Ran ws (take (length xs - i) (drop i xs)) places left after n) (room : 1 ≤ places) (whole : length after ≡ places)
     (zeros : LeadingZeros (take n after) m) where
   -- What is lent of the list is all that is left of it.
@@ -81,7 +108,7 @@ module _ (w : MonitorView) (xs ws left after : List ℕ) (i places n m : ℕ) (b
   pub turned : Turned w xs left after i n m
   turned =
       record {
-        some = omega (arith, piece .number, length-drop i xs);
+        some = λ h. omega (arith, piece .number, length-drop i xs);
         within = inside;
         part = omega (arith, zeros .within, taken);
         rejects = λ h. record {
@@ -95,7 +122,7 @@ module _ (w : MonitorView) (xs ws left after : List ℕ) (i places n m : ℕ) (b
         };
         goes-on = λ h. record {
           within = inside;
-          state = subst (Spells left) moved (piece .state);
+          state = subst (SpellsState left) moved (piece .state);
           passes = λ k l. passes k (omega arith);
         };
       }

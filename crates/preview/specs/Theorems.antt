@@ -1,4 +1,4 @@
--- What is proved of a preview: that it is what feeding the list comes to, tick by tick, and as a list.
+-- What is proved of a preview: that it is what feeding the list comes to, tick by tick, and by the call that runs it.
 use Prim.Native.Nat.{ℕ, _<_}
 use mathlib.Core.Path.{_≡_}
 use mathlib.Core.List.{List, []}
@@ -17,17 +17,18 @@ use Rattle.preview.specs.Preview.{pass, previewed, previewOf}
 abbrev pub fedAt : MonitorView → List ℕ → ℕ → Reply Ruling
 fedAt w xs k = judging (afterTicks w (take k xs)) (getD xs k 0)
 
--- Feeding passes all before place k, and answers v there, as a number.
-pub record TurnedDown (w : MonitorView) (xs : List ℕ) (k v : ℕ) : Type 0 where
+-- Feeding passes all before place k and does not pass there: its answer there has the number v, and 0 is a pass.
+pub record FirstRejected (w : MonitorView) (xs : List ℕ) (k v : ℕ) : Type 0 where
   pub within : k < length xs
   pub before : (i : ℕ) → i < k → fedAt w xs i ≡ pass
   pub there : rulingCode (fedAt w xs k) ≡ v
+  pub no-pass : 0 < v
 
--- Place k is named with the verdict v, which is not a pass, exactly when that is so.
+-- Exactly then place k is named with the verdict v. On words that are a state, as in all that follows but the refusal.
 abbrev pub NamesFirstRejected : Type 0
 NamesFirstRejected =
-    (ws xs : List ℕ) (found k v : ℕ) → LegalMonitorWords ws → 0 < v
-    → (previewOf ws xs found ≡ previewed k v) ↔ TurnedDown (monitorViewOf (monitorFrom ws)) xs k v
+    (ws xs : List ℕ) (found k v : ℕ) → LegalMonitorWords ws
+    → ((previewOf ws xs found ≡ previewed k v) × (0 < v)) ↔ FirstRejected (monitorViewOf (monitorFrom ws)) xs k v
 
 -- All are said to pass exactly when feeding passes all.
 abbrev pub AllPassIffFed : Type 0
@@ -35,13 +36,14 @@ AllPassIffFed =
     (ws xs : List ℕ) (found : ℕ) → LegalMonitorWords ws
     → (previewOf ws xs found ≡ previewed (length xs) 0) ↔ ((i : ℕ) → i < length xs → fedAt (monitorViewOf (monitorFrom ws)) xs i ≡ pass)
 
--- One of the two is said of every list, so that a verdict of 0 alone tells that all pass.
+-- One of the two is said of every list: a verdict of 0 tells that all pass.
 abbrev pub AllPassOrOneNamed : Type 0
 AllPassOrOneNamed =
     (ws xs : List ℕ) (found : ℕ) → LegalMonitorWords ws
     → (previewOf ws xs found ≡ previewed (length xs) 0) ⊎ ((k : ℕ) × (v : ℕ) × (0 < v) × (previewOf ws xs found ≡ previewed k v))
 
--- Both by the call that feeds a list in earnest: the verdicts that it would leave, where there is a place for each.
+-- What is named, and that all pass, by the call that feeds a list in earnest: by the verdicts that it would leave, where there is a place
+-- for each.
 abbrev pub verdictsOf : List ℕ → List ℕ → List ℕ → List ℤ → List ℕ
 verdictsOf ws xs vs ms = judgedCounts ws xs vs ms .verdicts
 
@@ -56,8 +58,8 @@ AllPassIffRun =
     (ws xs vs : List ℕ) (ms : List ℤ) (found : ℕ) → LegalMonitorWords ws → length vs ≡ length xs
     → (previewOf ws xs found ≡ previewed (length xs) 0) ↔ ((i : ℕ) → i < length xs → getD (verdictsOf ws xs vs ms) i 0 ≡ 0)
 
--- It is refused, with 12 and the verdict as found, exactly where the words are no state: whatever the list, of fewer than 2^63 counts, as
--- every list in a memory has.
+-- It is refused, with 12 and the verdict as found, exactly where the words are no state: whatever the list, if it has fewer than 2^63
+-- counts, as the header asks of every list.
 abbrev pub RefusedIffNoState : Type 0
 RefusedIffNoState =
     (ws xs : List ℕ) (found : ℕ) → length xs < 9_223_372_036_854_775_808

@@ -1,16 +1,12 @@
--- `preview::run_piece` meets its contract: it is what a run leaves. Assumes nothing.
+-- `preview::run_piece` meets its contract: it is a run, with no place for margins. Assumes nothing.
 use Rattle.laws.proofs.Base.{needs}
 use borrow.Author.Needs.{needs}
-use Rattle.preview.proofs.Ran.{ran}
 use Rattle.preview.proofs.run_piece.Statement.{statement}
 use Rattle.preview.proofs.run_piece.Tie as tie
 use Rattle.scripts.proofs.judge.Reads as judge-reads
 
 returns : tie.Need-returns
-returns c =
-    let s = c .before .before .before .before .before .before .before .before .before .before .before .before in
-    ran (s .args .words .now) (s .args .counts .now) (s .args .verdicts .now) _ _ _ _ _
-    (c .before .before .before .before .before .judge .ensures) (s .pre)
+returns c = (_, _, c .before .before .before .before .before .judge .ensures)
 
 pub run-piece-spec : {M : Type 1} → statement M
 run-piece-spec =
