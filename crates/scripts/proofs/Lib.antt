@@ -10,6 +10,7 @@ mod Written
 mod Opened
 pub mod InPieces
 pub mod Fresh
+pub mod Told
 mod Examples
 mod Adding
 mod Growing

@@ -1,5 +1,5 @@
 -- What is proved of the words: lists of ticks in pieces, by the answers that `judge` and `generate` promise, and so of the calls from C;
--- and the state that an opening writes.
+-- the state that an opening writes; and of answers as numbers.
 use Prim.Native.Nat.{ℕ, _+_}
 use mathlib.Core.Path.{_≡_}
 use mathlib.Core.List.{List, [], _++_}
@@ -10,10 +10,10 @@ use Rattle.curves.specs.Unlimited.{AnyPair}
 use Rattle.curves.specs.Questions.{result}
 use Rattle.history.specs.States.{viewOf}
 use Rattle.history.specs.Opening.{fresh}
-use Rattle.monitor.specs.Monitoring.{monitorViewOf}
+use Rattle.monitor.specs.Monitoring.{MonitorView, monitorViewOf, judging}
 use Rattle.monitor.specs.Opening.{monitorOpening, freshMonitor}
 use Rattle.generator.specs.Opening.{generatorOpening}
-use Rattle.scripts.specs.Codes.{minus}
+use Rattle.scripts.specs.Codes.{minus, rulingCode}
 use Rattle.scripts.specs.Words.{historyFrom, monitorFrom, openedWords, openedMonitorWords}
 use Rattle.scripts.specs.Scripts.{Judged, judgedCounts, Sent, sentChoices}
 
@@ -53,3 +53,8 @@ GeneratorWordsFresh = (p : AnyPair) → generatorOpening p ≡ result tt → vie
 
 abbrev pub MonitorWordsFresh : Type 0
 MonitorWordsFresh = (p : AnyPair) → monitorOpening p ≡ result tt → monitorViewOf (monitorFrom (openedMonitorWords p)) ≡ freshMonitor p
+
+-- The number of a monitor's answer tells the answer: ticks whose answers have one number are answered alike, window and all.
+abbrev pub NumbersTellAnswers : Type 0
+NumbersTellAnswers =
+    (w u : MonitorView) (x y : ℕ) → rulingCode (judging w x) ≡ rulingCode (judging u y) → judging w x ≡ judging u y
