@@ -156,6 +156,7 @@ static void run_monitor_preview(void)
     preview("a list too few", &sporadic_monitor, TICKS, 0, CALGEDZE_TOO_FEW);
     preview("an empty list", &monitor, 0, 0, CALGEDZE_PASSED);
     expect("words that are no state", -12, calgedze_monitor_preview(CALGEDZE_STATE(&broken_monitor), counts, TICKS, &verdict));
+    expect("the verdict with 12", LARGEST, verdict);
 }
 
 static void run_monitor_run(void)

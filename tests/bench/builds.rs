@@ -1,6 +1,6 @@
 //! The fastest forms as contenders: built for any machine, and built with wider instructions.
 
-use crate::contender::{Contender, Preview, State};
+use crate::contender::{hold, Contender, Preview, State};
 use crate::fastest::{close_core, generate_core, generator_core, judge_core, monitor, preview_core, read_core, Generator, Monitor};
 use crate::plain;
 use crate::subject::{refusal_of, LONGEST_HORIZON};
@@ -44,7 +44,7 @@ impl State for Judge {
 }
 
 impl Preview for Tester {
-    fn preview(&self, counts: &[u32]) -> (usize, u32) {
+    fn preview(&mut self, counts: &[u32]) -> (usize, u32) {
         (self.run)(&self.state, counts)
     }
 }
@@ -81,9 +81,16 @@ fn preview(state: &Monitor, counts: &[u32]) -> (usize, u32) {
     preview_core(state, counts)
 }
 
-pub fn open_preview(upper: &[u32], lower: &[u32]) -> Result<Box<dyn Preview>, u32> {
+/// What is held is run by the same build, whatever the preview's: it is not timed.
+fn tester(upper: &[u32], lower: &[u32], held: &[u32], run: fn(&Monitor, &[u32]) -> (usize, u32)) -> Result<Box<dyn Preview>, u32> {
     let state = opened(upper, lower)?;
-    Ok(Box::new(Tester { state, run: preview }))
+    let mut judge = Judge { state, run: judge };
+    hold(&mut judge, held);
+    Ok(Box::new(Tester { state: judge.state, run }))
+}
+
+pub fn open_preview(upper: &[u32], lower: &[u32], held: &[u32]) -> Result<Box<dyn Preview>, u32> {
+    tester(upper, lower, held, preview)
 }
 
 pub fn open_generator(upper: &[u32], lower: &[u32]) -> Result<Box<dyn State>, u32> {
@@ -148,10 +155,9 @@ pub fn with_avx2() -> Option<Contender> {
             let state = opened(upper, lower)?;
             Ok(Box::new(Judge { state, run }))
         },
-        preview: |upper, lower| {
+        preview: |upper, lower, held| {
             let run = |state: &Monitor, counts: &[u32]| unsafe { wide::preview(state, counts) };
-            let state = opened(upper, lower)?;
-            Ok(Box::new(Tester { state, run }))
+            tester(upper, lower, held, run)
         },
         generator: |upper, lower| {
             let run = |state: &mut Generator, choices: &[u32], counts: &mut [u32]| unsafe { wide::generate(state, choices, counts) };

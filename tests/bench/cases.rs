@@ -20,6 +20,8 @@ pub struct Case {
     pub run: fn(&Case, &Contender) -> Outcome,
     upper: Vec<u32>,
     lower: Vec<u32>,
+    /// Counts that a monitor has run before it tries the list.
+    held: Vec<u32>,
     list: Vec<u32>,
     text: Vec<u8>,
 }
@@ -75,8 +77,8 @@ fn judge_with_margins(case: &Case, contender: &Contender) -> Outcome {
 /// A list that is tried so many times on a state that was opened before.
 fn preview(case: &Case, contender: &Contender, times: usize) -> Outcome {
     let mut found = (0, 0);
-    let time = match (contender.preview)(&case.upper, &case.lower) {
-        Ok(state) => timed(|| (0..times).for_each(|_| found = state.preview(black_box(&case.list)))),
+    let time = match (contender.preview)(&case.upper, &case.lower, &case.held) {
+        Ok(mut state) => timed(|| (0..times).for_each(|_| found = state.preview(black_box(&case.list)))),
         Err(number) => {
             found.1 = number;
             Duration::ZERO
@@ -148,6 +150,7 @@ fn closing(name: &'static str, upper: Vec<u32>, lower: Vec<u32>) -> Case {
         run: close,
         upper,
         lower,
+        held: Vec::new(),
         list: Vec::new(),
         text: Vec::new(),
     }
@@ -207,6 +210,7 @@ fn generator(name: &'static str, horizon: u32) -> Case {
         run: generate,
         upper,
         lower,
+        held: Vec::new(),
         list: choices(),
         text: Vec::new(),
     }
@@ -226,9 +230,10 @@ fn tried(mut case: Case) -> Case {
     case
 }
 
-/// Its first ten counts, and one that no curve lets pass.
+/// Ten counts of it and one that no curve lets pass, behind as many as a monitor can hold.
 fn burst(mut case: Case) -> Case {
-    case.list.truncate(10);
+    case.held = case.list[..case.upper.len()].to_vec();
+    case.list = case.list[case.upper.len()..][..10].to_vec();
     case.list.push(LIMIT);
     case.calls = BURSTS;
     case.run = preview_burst;
@@ -263,6 +268,7 @@ pub fn not_closed() -> Vec<Case> {
         run: generate,
         upper: upper.to_vec(),
         lower: lower.to_vec(),
+        held: Vec::new(),
         list: vec![1, 2],
         text: Vec::new(),
     };
@@ -286,6 +292,7 @@ fn reading(name: &'static str, with_most: bool) -> Case {
         run: read,
         upper: Vec::new(),
         lower: Vec::new(),
+        held: Vec::new(),
         list: Vec::new(),
         text,
     }
@@ -305,6 +312,7 @@ pub fn rejected() -> Vec<Case> {
         run: judge_with_margins,
         upper: vec![5, 3],
         lower: vec![0, 2],
+        held: Vec::new(),
         list: counts.to_vec(),
         text: Vec::new(),
     };

@@ -26,10 +26,16 @@ type Read = fn(&[u8], &mut [u32], &mut [u32]) -> u64;
 /// A monitor that was opened, and tries lists.
 pub trait Preview {
     /// How many counts pass, from the first on, and the verdict on the one behind them, or that of a pass.
-    fn preview(&self, counts: &[u32]) -> (usize, u32);
+    fn preview(&mut self, counts: &[u32]) -> (usize, u32);
 }
 
-type OpenPreview = fn(&[u32], &[u32]) -> Result<Box<dyn Preview>, u32>;
+/// On curves that are not refused, after counts that pass.
+type OpenPreview = fn(&[u32], &[u32], &[u32]) -> Result<Box<dyn Preview>, u32>;
+
+/// Runs counts that pass, and keeps no answer.
+pub fn hold(monitor: &mut dyn State, counts: &[u32]) {
+    monitor.run(counts, &mut vec![PASSED; counts.len()], &mut []);
+}
 
 pub struct Contender {
     pub name: &'static str,
@@ -51,9 +57,9 @@ impl State for Monitor {
 }
 
 impl Preview for Monitor {
-    fn preview(&self, counts: &[u32]) -> (usize, u32) {
+    fn preview(&mut self, counts: &[u32]) -> (usize, u32) {
         let mut verdict = PASSED;
-        let place = Product.preview(&self.0, counts, &mut verdict);
+        let place = Product.preview(&mut self.0, counts, &mut verdict);
         (place as usize, verdict)
     }
 }
@@ -87,7 +93,11 @@ pub fn all() -> Vec<Contender> {
             name: "product",
             close: |upper, lower, closed_upper, closed_lower| Product.close(upper, lower, 0, closed_upper, closed_lower),
             monitor: |upper, lower| Ok(opened(upper, lower)?),
-            preview: |upper, lower| Ok(opened(upper, lower)?),
+            preview: |upper, lower, held| {
+                let mut monitor = opened(upper, lower)?;
+                hold(&mut *monitor, held);
+                Ok(monitor)
+            },
             generator: open_generator,
             read: |text, upper, lower| Product.read(text, upper, lower),
         },
@@ -95,7 +105,11 @@ pub fn all() -> Vec<Contender> {
             name: "plain",
             close: plain::close,
             monitor: |upper, lower| Ok(plain::open_monitor(upper, lower)?),
-            preview: |upper, lower| Ok(plain::open_monitor(upper, lower)?),
+            preview: |upper, lower, held| {
+                let mut monitor = plain::open_monitor(upper, lower)?;
+                hold(&mut *monitor, held);
+                Ok(monitor)
+            },
             generator: plain::open_generator,
             read: plain::read,
         },

@@ -6,7 +6,7 @@
 //! A state is changed in place, and only what was opened here can be one, so that question 12 is not asked of it.
 
 use crate::plain;
-use crate::ring::Ring;
+use crate::ring::{Ring, LONG};
 use crate::subject::{answered, refused, ALREADY_FAILED, HEADER, LIMIT, LONGEST_HORIZON, LOST, PASSED, TOO_FEW, TOO_MANY};
 
 /// Windows of one block.
@@ -106,7 +106,7 @@ pub fn close_core(upper: &[u32], lower: &[u32], closed_upper: &mut [u32], closed
 
 /// Whether some window is outside. The sums fit: what is held keeps the closed upper curve, and the count is at most the limit.
 #[inline(always)]
-fn outside(ring: &Ring, upper: &[u32], lower: &[u32], count: u32) -> bool {
+fn outside<const SIZE: usize>(ring: &Ring<SIZE>, upper: &[u32], lower: &[u32], count: u32) -> bool {
     let (before, latest) = ring.before();
     let next = latest.wrapping_add(count as i32);
     let mut found = false;
@@ -119,7 +119,7 @@ fn outside(ring: &Ring, upper: &[u32], lower: &[u32], count: u32) -> bool {
 
 /// The smallest margin where no sum passes 32 bits.
 #[inline(always)]
-fn margin(ring: &Ring, upper: &[u32], lower: &[u32], count: u32) -> i32 {
+fn margin(ring: &Ring<LONG>, upper: &[u32], lower: &[u32], count: u32) -> i32 {
     let (before, latest) = ring.before();
     let next = latest.wrapping_add(count as i32);
     let mut smallest = i32::MAX;
@@ -131,7 +131,7 @@ fn margin(ring: &Ring, upper: &[u32], lower: &[u32], count: u32) -> i32 {
 }
 
 /// Only once in a list: which window it was, and the margin of the tick.
-fn verdict_and_margin(ring: &Ring, upper: &[u32], lower: &[u32], count: u32) -> (u32, i64) {
+fn verdict_and_margin<const SIZE: usize>(ring: &Ring<SIZE>, upper: &[u32], lower: &[u32], count: u32) -> (u32, i64) {
     let (before, latest) = ring.before();
     let (mut verdict, mut smallest) = (PASSED, i64::MAX);
     for (place, sum) in before.iter().enumerate() {
@@ -151,7 +151,7 @@ pub struct Monitor {
     closed_upper: [u32; LONGEST_HORIZON],
     closed_lower: [u32; LONGEST_HORIZON],
     horizon: usize,
-    ring: Ring,
+    ring: Ring<LONG>,
     failed: bool,
 }
 
@@ -212,7 +212,7 @@ pub fn preview_core(monitor: &Monitor, counts: &[u32]) -> (usize, u32) {
     if monitor.failed && !counts.is_empty() {
         return (0, ALREADY_FAILED);
     }
-    let mut ring = monitor.ring.clone();
+    let mut ring = monitor.ring.copied();
     for (place, &count) in counts.iter().enumerate() {
         if count > LIMIT || outside(&ring, closed.0, closed.1, count) {
             let verdict = verdict_and_margin(&ring, upper, lower, count).0;
@@ -224,7 +224,7 @@ pub fn preview_core(monitor: &Monitor, counts: &[u32]) -> (usize, u32) {
 }
 
 #[inline(always)]
-fn range(ring: &Ring, upper: &[u32], lower: &[u32]) -> (i32, i32) {
+fn range(ring: &Ring<LONG>, upper: &[u32], lower: &[u32]) -> (i32, i32) {
     let (before, latest) = ring.before();
     let (mut lo, mut hi) = (0, i32::MAX);
     for ((sum, upper), lower) in before.iter().zip(upper).zip(lower) {
@@ -246,7 +246,7 @@ pub struct Generator {
     upper: [u32; LONGEST_HORIZON],
     lower: [u32; LONGEST_HORIZON],
     horizon: usize,
-    ring: Ring,
+    ring: Ring<LONG>,
 }
 
 /// On a pair that the questions 1, 2 and 4 do not refuse.

@@ -270,7 +270,7 @@ impl State for Monitor {
 }
 
 impl Preview for Monitor {
-    fn preview(&self, counts: &[u32]) -> (usize, u32) {
+    fn preview(&mut self, counts: &[u32]) -> (usize, u32) {
         let mut monitor = self.clone();
         let mut verdict = PASSED;
         for (place, count) in counts.iter().enumerate() {

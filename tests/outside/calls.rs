@@ -1,5 +1,5 @@
-//! Calls on words: an opening, a run, a preview and a look, each put to a subject and compared in all that it gives back and leaves. Every list has
-//! entries on either side that no call may touch.
+//! Calls on words: an opening, a run, a preview and a look, each put to a subject and compared in all that it gives back and leaves. Every
+//! list has entries on either side that no call may touch.
 
 use crate::pair::Pair;
 use crate::random::Rng;
@@ -148,7 +148,7 @@ pub fn check_opening(subject: &dyn Subject, rng: &mut Rng, kind: Kind, pair: &Pa
     Err(format!("{input}\nexpected {expected:?}\ncame {came:?}\n{note}"))
 }
 
-/// A preview puts one number, into the verdict that is lent for it; its lists must stay as they are.
+/// A preview puts its verdict into the number that is lent for it; its lists must stay as they are.
 pub fn check_preview(subject: &dyn Subject, words: &[u32], counts: &[u32], due: Option<(usize, u32)>) -> Result<(), String> {
     let lent = (padded(words, FILLER), padded(counts, FILLER));
     let mut left = lent.clone();

@@ -1,5 +1,5 @@
-//! Runs, previews and looks on words built by hand, damaged ones among them, and on lists of other lengths: what must be refused with 12 is, first
-//! of all and for an empty list too, and then nothing changes; and all else is what the reference comes to.
+//! Runs, previews and looks on words built by hand, damaged ones among them, and on lists of other lengths: what must be refused with 12
+//! is, first of all and for an empty list too, and then nothing changes; and all else is what the reference comes to.
 
 use crate::calls::{self, check_look, check_preview, Run};
 use crate::limits::note_both;
@@ -116,14 +116,13 @@ fn check_tried(subject: &dyn Subject, rng: &mut Rng, words: &[u32], counts: &[u3
     lent.resize(calls::length(rng, Kind::Monitor), 0);
     let counts = if rng.one_in(4) { &[] } else { counts };
     let due = Trace::new(Kind::Monitor, &lent, counts, 0).map(|trace| trace.first_rejected(0, counts.len()));
-    let empty = if counts.is_empty() { 10 } else { 0 };
-    let failed = State::of_words(&lent).failed && counts.is_empty();
+    let (empty, failed) = (counts.is_empty(), State::of_words(&lent).failed);
     tally.note(
         PREVIEW_BUILT,
         match due {
-            None => 20 + empty,
-            Some(_) if failed => 11,
-            Some((_, verdict)) => verdict / 1_000 + empty,
+            None => 20 + 10 * u32::from(empty),
+            Some(_) if empty => 10 + u32::from(failed),
+            Some((_, verdict)) => verdict / 1_000,
         },
     );
     check_preview(subject, &lent, counts, due)

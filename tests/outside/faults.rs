@@ -155,6 +155,7 @@ pub enum Fault {
     PreviewAnewEachPiece,
     PreviewEachAlone,
     PreviewOfFailed,
+    PreviewFeedsState,
     // Generator.
     SendsZeroForNoCount,
     HoldsForNoCount,

@@ -1,5 +1,5 @@
-//! Openings, runs, previews and looks with a fault, on words: what is taken from them and what is written back. What a tick comes to in between is in
-//! `faulty_monitor` and `faulty_streams`.
+//! Openings, runs, previews and looks with a fault, on words: what is taken from them and what is written back. What a tick comes to in
+//! between is in `faulty_monitor` and `faulty_streams`.
 
 use crate::faults::Fault::*;
 use crate::faulty_closing::{Faulty, Figures, Lists};
@@ -13,7 +13,7 @@ use crate::words::{LOWER_WORDS, MARK_WORD, TICK_WORDS, UPPER_WORDS};
 /// How many ticks late a fault may come.
 const LATE: usize = 64;
 
-/// How many counts of a preview a fault takes for all, or begins anew after.
+/// How many counts of a preview a fault takes for all, or begins anew after: as many as the product tries at a time.
 const TRIED: usize = 1_024;
 
 /// The lists that are lent to a run, beside its state.
@@ -277,7 +277,7 @@ impl Faulty {
         tried.collect()
     }
 
-    pub fn preview_on(&self, state: &[u32], counts: &[u32], verdict: &mut u32) -> i64 {
+    pub fn preview_on(&self, state: &mut [u32], counts: &[u32], verdict: &mut u32) -> i64 {
         let Some(taken) = self.taken(Kind::Monitor, state) else {
             match self.fault {
                 PreviewTwelveNotOfNone if counts.is_empty() => return 0,
@@ -287,6 +287,9 @@ impl Faulty {
             return -12;
         };
         let answers = self.tried(&taken, counts);
+        if self.has(PreviewFeedsState) {
+            self.run_on(Kind::Monitor, state, counts, &mut vec![0; counts.len()], &mut []);
+        }
         let rejects = |&answer: &u32| answer != PASSED && !(self.has(PreviewOverLost) && answer == LOST);
         let place = match self.fault {
             PreviewLastPlace => answers.iter().rposition(rejects),

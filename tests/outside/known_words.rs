@@ -117,7 +117,7 @@ fn check_previews(subject: &dyn Subject) -> Result<(), String> {
     expect("open", 0, subject.open_monitor(&[3, 6, 3, 12, 9], &[0, 0, 0, 0, 5], 0, &mut state))?;
     let tried = |state: &[u32], counts: &[u32]| {
         let mut verdict = 7;
-        (subject.preview(state, counts, &mut verdict), verdict)
+        (subject.preview(&mut state.to_vec(), counts, &mut verdict), verdict)
     };
     expect("a preview of ones", (3, 0), tried(&state, &[1, 1, 1]))?;
     expect("a preview of what is lost", (1, 4_000), tried(&state, &[1, 0, 9]))?;

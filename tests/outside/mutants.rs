@@ -42,7 +42,7 @@ impl Subject for Faulty {
         self.run_on(Kind::Monitor, state, counts, verdicts, margins)
     }
 
-    fn preview(&self, state: &[u32], counts: &[u32], verdict: &mut u32) -> i64 {
+    fn preview(&self, state: &mut [u32], counts: &[u32], verdict: &mut u32) -> i64 {
         self.preview_on(state, counts, verdict)
     }
 

@@ -146,7 +146,7 @@ impl Subject for Product {
         }
     }
 
-    fn preview(&self, state: &[u32], counts: &[u32], verdict: &mut u32) -> i64 {
+    fn preview(&self, state: &mut [u32], counts: &[u32], verdict: &mut u32) -> i64 {
         // SAFETY: as for closing; the verdict is no part of a slice.
         unsafe { calgedze_monitor_preview(state.as_ptr(), state.len(), counts.as_ptr(), counts.len(), verdict) }
     }

@@ -36,7 +36,7 @@ impl Subject for Reference {
         trace::run_on(Kind::Monitor, state, counts, verdicts, margins)
     }
 
-    fn preview(&self, state: &[u32], counts: &[u32], verdict: &mut u32) -> i64 {
+    fn preview(&self, state: &mut [u32], counts: &[u32], verdict: &mut u32) -> i64 {
         trace::preview_on(state, counts, verdict)
     }
 

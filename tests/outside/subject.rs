@@ -45,7 +45,8 @@ pub trait Subject: Sync {
     fn open_monitor(&self, upper: &[u32], lower: &[u32], mark: u32, state: &mut [u32]) -> u32;
     fn open_generator(&self, upper: &[u32], lower: &[u32], mark: u32, state: &mut [u32]) -> u32;
     fn run_monitor(&self, state: &mut [u32], counts: &[u32], verdicts: &mut [u32], margins: &mut [i64]) -> i64;
-    fn preview(&self, state: &[u32], counts: &[u32], verdict: &mut u32) -> i64;
+    /// The state is lent so that a fault could write it.
+    fn preview(&self, state: &mut [u32], counts: &[u32], verdict: &mut u32) -> i64;
     fn run_generator(&self, state: &mut [u32], choices: &[u32], counts: &mut [u32]) -> i64;
     fn look(&self, state: &[u32]) -> i64;
 

@@ -106,7 +106,7 @@ pub const BUILT_BOTH: &str = "words by hand, many and few at once, 1 in one wind
 pub const BUILT_COUNT: &str = "sent by hand (0 a count, 1 none; later 2, 3, 4 none again)";
 pub const BUILT_LOOK: &str = "looks at words by hand (0 a range, 12 or 13 refused)";
 pub const PREVIEW_BUILT: &str = "previews by hand (0 to 4; 10, 11 of none; 20, 30: 12)";
-pub const PREVIEW_PLACE: &str = "a preview that passes up to place";
+pub const PREVIEW_PLACE: &str = "previews of long lists, the place that is rejected";
 pub const RENDERED: &str = "rendering refused with (0: a text)";
 pub const RENDER_ROOM: &str = "rendered into a list (0 short, 1 exact, 2 longer)";
 pub const LONG_MANY: &str = "too many after thousands of ticks, window";
@@ -131,7 +131,7 @@ const HORIZONS: &[u32] = &[1, 2, 3, 4, 8, 12, 64, 255, 256];
 /// Windows that long lists must break.
 const LONG_WINDOWS: &[u32] = &[1, 16, 255, 256];
 
-/// Places about the ends of pieces of 1,024 ticks, in which the product tries a list.
+/// Places at the beginning of a list, and about the ends of pieces of 1,024 counts: so many at a time the product tries.
 pub const SEAMS: [u32; 10] = [0, 1, 1_022, 1_023, 1_024, 1_025, 2_047, 2_048, 2_049, 3_072];
 
 /// How many ticks come after the one that is rejected: none, few, and about one and two times 64.

@@ -14,7 +14,8 @@ use Rattle.preview.specs.Preview.{pass, leadingPasses, Previewed, previe
 use Rattle.preview.specs.Theorems.{fedAt, verdictsOf, NamesFirstRejected, AllPassIffFed, NamesFirstOfRun, AllPassIffRun}
 use Rattle.preview.specs.Theorems.{AllPassOrOneNamed, RefusedIffNoState, EmptyPasses}
 use Rattle.preview.specs.Steps.{LeadingZeros}
-use Rattle.preview.proofs.Fed.{codes, zero-is-pass, leading-first, codes-length, code-at, Tried, preview-bad, preview-legal, tried-is}
+use Rattle.preview.proofs.Fed.{codes, zero-is-pass, leading-first, codes-length, code-at, Tried, preview-bad}
+use Rattle.preview.proofs.Fed.{preview-legal, tried-is}
 
 -- ---- a preview, and the answers as numbers
 -- It is the number of those that are 0, from the first on, and the one behind them.

@@ -1,6 +1,6 @@
 -- One more piece of a list: what is known of the answers to the whole list before it, and after it. Assumes nothing.
-use Rattle.laws.proofs.Base.{ℕ, _+_, _-_, _≤_, _<_, _≡_, refl, sym, ap, _∙_, subst, subst⁻¹, min, List, arith, length, getD, take, drop, length-drop}
-use Rattle.laws.proofs.Base.{decLt, length-take-le, take-all}
+use Rattle.laws.proofs.Base.{ℕ, _+_, _-_, _≤_, _<_, _≡_, refl, sym, ap, _∙_, subst, subst⁻¹, min, List, arith}
+use Rattle.laws.proofs.Base.{length, getD, take, drop, length-drop, decLt, length-take-le, take-all}
 use lib.ListN.{List·getD-eq-default}
 use lib.Seq.{take-add, getD-take}
 use Rattle.monitor.specs.Monitoring.{MonitorView, monitorViewOf}

@@ -1,5 +1,5 @@
 -- `preview::preview` meets its promise: the counts are tried on the words themselves, copied whole. Assumes nothing.
-use Rattle.laws.proofs.Base.{ℕ, _≡_, sym, ap, _∙_, List, needs, length, replicate, length-replicate}
+use Rattle.laws.proofs.Base.{ℕ, _≡_, sym, ap, _∙_, List, arith, needs, length, replicate, length-replicate}
 use borrow.Author.Needs.{needs}
 use Rattle.laws.specs.Writing.{over}
 use Rattle.laws.proofs.Copying.{over-whole}
@@ -17,7 +17,7 @@ copied ws zeros left n z e c = c ∙ over-whole ws zeros (ap length z ∙ length
 returns : tie.Need-returns
 returns c =
     let s = c .before .before .before in
-    sym (preview-bad (s .args .state .now) (s .args .counts .now) (s .args .verdict .now) (λ l. c .if1 .taken (l .0)))
+    sym (preview-bad (s .args .state .now) (s .args .counts .now) (s .args .verdict .now) (λ l. omega (arith, c .if1 .taken, l .0)))
 
 returns-2 : tie.Need-returns-2
 returns-2 c =
