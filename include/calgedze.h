@@ -5,7 +5,7 @@
  * Every call ends, whatever the lengths and contents of its lists. A list is a pointer and a number of entries, fewer than 2^63, so that
  * a number that counts entries is never negative, as a refusal is; the pointer is never null, not even for no entries, and aligned for its
  * entries, which are in the machine's byte order; and a list that a call writes overlaps no other list of the call. `verdict`, the one
- * pointer without a number of entries, is as one to a list of one. A pair is two lists of figures, the upper curve (ceilings) and the lower
+ * pointer without a number, points to a list of one entry. A pair is two lists of figures, the upper curve (ceilings) and the lower
  * (leasts), entry 0 of each being that of the window of one tick; and a mark.
  *
  * The mark, `unlimited`, says that the pair has no ceilings: any number but 0 sets it. The upper list must still be a list of as many
@@ -15,7 +15,8 @@
  * Where several numbers apply, the call is refused with the one that stands first in its own list below. How the number comes back:
  *   calgedze_close, calgedze_read                       in the upper half of the answer: CALGEDZE_REFUSAL(answer) is not 0
  *   calgedze_monitor_open, calgedze_generator_open      as it is: what comes back is not 0
- *   calgedze_render and all other calls on a state      with a minus sign: what comes back is negative
+ *   calgedze_render, and the runs, the preview and the
+ *   look on a state                                     with a minus sign: what comes back is negative
  *   calgedze_report                                     in the text that it writes
  *
  * Threads: the library has no state of its own. Calls on different lists may run at the same time; two calls that share a list, one of
@@ -124,7 +125,7 @@ typedef struct calgedze_monitor {
 #define CALGEDZE_GENERATOR_WORDS 771
 #define CALGEDZE_MONITOR_WORDS 1284
 
-/* The two arguments that stand for a state, where `state` points to one of the structs. */
+/* The two arguments that stand for a state, where `state` points to one of the structs, also to one that is const. */
 #define CALGEDZE_STATE(state) ((uint32_t *)(state)), (sizeof *(state) / sizeof(uint32_t))
 
 /*
@@ -178,13 +179,15 @@ int64_t calgedze_monitor_run(uint32_t *state, size_t state_length, const uint32_
                              size_t verdicts_length, int64_t *margins, size_t margins_length);
 
 /*
- * What a monitor would say to the entries of `counts`, of which there may be any number: what calgedze_monitor_run would answer, told
- * without a change to the state. Gives back how many counts pass, from the first on. Where these are all, `verdict` becomes
- * CALGEDZE_PASSED. Else what comes back is the place of the first count that is rejected, 0 being that of the first entry, and `verdict`
- * becomes the answer to it. An empty list passes, on a monitor that has failed too, where any other has CALGEDZE_ALREADY_FAILED at place
- * 0. Or -12, and then `verdict` stays as it was.
+ * What a monitor would say to the entries of `counts`, of which there may be any number: the verdicts that calgedze_monitor_run would
+ * give, up to the first that is not CALGEDZE_PASSED. The state stays as it is. Gives back how many counts pass, from the first on. Where
+ * these are all, *verdict becomes CALGEDZE_PASSED. Else what comes back is the place of the first count that is rejected, 0 being that of
+ * the first entry, and *verdict becomes the verdict on it. Or gives back -12, and then *verdict stays as it was: look at what comes back
+ * first. An empty list passes, on a monitor that has failed too; there every other list is rejected at place 0, as
+ * CALGEDZE_ALREADY_FAILED.
  *
- * It takes about as long as a run without margins, with a place for a verdict of each count, would up to the rejected one.
+ * Counts are run 1,024 at a time on a copy of the state, without margins. Where one is rejected, up to 63 of those behind it cost as much
+ * as a tick with a margin.
  */
 int64_t calgedze_monitor_preview(const uint32_t *state, size_t state_length, const uint32_t *counts, size_t counts_length,
                                  uint32_t *verdict);
@@ -240,7 +243,7 @@ static inline uint32_t calgedze_hi(int64_t look)
 
 /*
  * The number of a refusal in words: CALGEDZE_REFUSAL(answer), what an opening gives back, or a negative answer with its sign or without.
- * Ask only where the call was refused: a number of ticks or of rounds is no refusal.
+ * Ask only where the call was refused: a number of ticks or of rounds, or a place, is no refusal.
  */
 static inline const char *calgedze_refusal_text(int64_t number)
 {

@@ -140,7 +140,7 @@ static void try_and_print(const calgedze_monitor *monitor, const uint32_t *burst
     }
 }
 
-/* A monitor has passed some counts; two bursts that could follow are tried, and the one that passes is sent. */
+/* A monitor has passed some counts. Two bursts that could follow are tried; then the second, which passes, is given to it. */
 static int try_bursts(const pair *curves, const uint32_t *counts, size_t length)
 {
     const uint32_t hasty[4] = {2, 1, 1, 2}, careful[4] = {2, 1, 0, 2};
