@@ -125,7 +125,10 @@ typedef struct calgedze_monitor {
 #define CALGEDZE_GENERATOR_WORDS 771
 #define CALGEDZE_MONITOR_WORDS 1284
 
-/* The two arguments that stand for a state, where `state` points to one of the structs, also to one that is const. */
+/*
+ * The two arguments that stand for a state, where `state` points to one of the structs. It may be const for a preview or a look, which only
+ * read it; the macro takes the const away, so that no compiler warns where a run or an opening is given such a state.
+ */
 #define CALGEDZE_STATE(state) ((uint32_t *)(state)), (sizeof *(state) / sizeof(uint32_t))
 
 /*
@@ -186,8 +189,9 @@ int64_t calgedze_monitor_run(uint32_t *state, size_t state_length, const uint32_
  * first. An empty list passes, on a monitor that has failed too; there every other list is rejected at place 0, as
  * CALGEDZE_ALREADY_FAILED.
  *
- * Counts are run 1,024 at a time on a copy of the state, without margins. Where one is rejected, up to 63 of those behind it cost as much
- * as a tick with a margin.
+ * Counts are run 1,024 at a time on a copy of the state, without margins. Where one is rejected, up to 63 of those behind it are still run
+ * one by one: 1,024 counts of which the first is rejected took 4 to 7 microseconds. While some window's sum is above 536,870,912, each
+ * count takes as long as one with a margin does in a run.
  */
 int64_t calgedze_monitor_preview(const uint32_t *state, size_t state_length, const uint32_t *counts, size_t counts_length,
                                  uint32_t *verdict);

@@ -138,10 +138,13 @@ static void reject(const char *name, const calgedze_monitor *from, uint32_t coun
 /* How many of so many counts pass, on a state that stays as it is, and the verdict on the next, without its window. */
 static void preview(const char *name, const calgedze_monitor *from, size_t length, int64_t passing, uint32_t kind)
 {
+    static calgedze_monitor before;
     uint32_t verdict = LARGEST;
 
+    before = *from;
     expect(name, passing, calgedze_monitor_preview(CALGEDZE_STATE(from), counts, length, &verdict));
     expect(name, kind, calgedze_verdict_kind(verdict));
+    expect(name, 0, memcmp(&before, from, sizeof before));
 }
 
 /* More counts than are run at a time, and some that are rejected at the end, or at once. */

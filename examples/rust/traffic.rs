@@ -205,7 +205,8 @@ impl Monitor {
         Ok(verdicts.into_iter().map(verdict).zip(margins).collect())
     }
 
-    /// How many of these counts would pass, from the first on, and what it would say to the one behind them. It stays as it is.
+    /// How many of these counts would pass, from the first on, and what it would say to the one behind them; `Passed` where there is none.
+    /// It stays as it is.
     fn preview(&self, counts: &[u32]) -> Result<(usize, Verdict), Refusal> {
         let (words, ticks, mut entry) = (self.0.as_ptr(), counts.len(), 0);
         // SAFETY: each pointer goes with the length of its list, and the verdict is no entry of either.

@@ -230,7 +230,7 @@ fn tried(mut case: Case) -> Case {
     case
 }
 
-/// Ten counts of it and one that no curve lets pass, behind as many as a monitor can hold.
+/// Ten counts of it and one that is too many for these curves, behind as many as a monitor can hold.
 fn burst(mut case: Case) -> Case {
     case.held = case.list[..case.upper.len()].to_vec();
     case.list = case.list[case.upper.len()..][..10].to_vec();

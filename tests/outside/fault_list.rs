@@ -138,7 +138,7 @@ pub const MUTANTS: &[(Fault, &str)] = &[
     (PreviewOfOnePiece, "preview: 1,024 counts alone looked at"),
     (PreviewAnewEachPiece, "preview: the state anew after 1,024 counts"),
     (PreviewEachAlone, "preview: each count on the state as it is given"),
-    (PreviewOfFailed, "preview: a failed state taken for another"),
+    (PreviewOfFailed, "preview: the failed mark not looked at"),
     (PreviewFeedsState, "preview: the state itself is fed"),
     (SendsZeroForNoCount, "generator: sends 0 where there is no count"),
     (HoldsForNoCount, "generator: a tick held where there is no count"),

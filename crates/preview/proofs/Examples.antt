@@ -15,7 +15,7 @@ use Rattle.scripts.specs.Codes.{minus}
 use Rattle.scripts.specs.Words.{openedWords, closedWords}
 use Rattle.preview.specs.Preview.{pass, leadingPasses, answerBehind, previewed, previewOf}
 
--- The place of the first that is turned down, counted from 0, and what is answered there; those behind it do not count.
+-- The place of the first that is rejected, counted from 0, and what is answered there; those behind it do not count.
 first-of-many : leadingPasses (pass ∷ pass ∷ result (judged (tooMany 3)) ∷ result alreadyFailed ∷ []) ≡ 2
 unfolding leadingPasses
 first-of-many = refl
@@ -35,8 +35,8 @@ monitor = openedWords published ++ closedWords published (pairOf (1 ∷ 2 ∷ 3 
 abbrev failed : List ℕ
 failed = set monitor 1_283 1
 
--- A stream of ones passes. Without one it is lost, at the place where that is; four are too many in one tick. An empty list passes, on a
--- monitor that has failed too, and that turns any count down.
+-- A stream of ones passes. A tick without one is lost, and its place is named; four are too many in one tick. An empty list passes, on a
+-- monitor that has failed too, which rejects a list of one at place 0.
 shown
     : (previewOf monitor (1 ∷ 1 ∷ 1 ∷ []) 7 ≡ previewed 3 0) × (previewOf monitor (1 ∷ 0 ∷ 9 ∷ []) 7 ≡ previewed 1 4_000)
     × (previewOf monitor (4 ∷ []) 7 ≡ previewed 0 1_001) × (previewOf monitor [] 7 ≡ previewed 0 0)

@@ -10,7 +10,7 @@ use Rattle.monitor.specs.Calls.{rulings}
 use Rattle.scripts.specs.Codes.{minus, rulingCode}
 use Rattle.scripts.specs.Words.{monitorFrom, monitorQuestion12}
 
--- The answer to a tick that passes. Every other verdict rejects its tick; a refusal comes of no state that is legal.
+-- The answer to a tick that passes. Every other verdict rejects its tick; a legal state never answers with a refusal.
 abbrev pub pass : Reply Ruling
 pass = result (judged passed)
 

@@ -24,7 +24,8 @@ pub record FirstRejected (w : MonitorView) (xs : List ℕ) (k v : ℕ) : Type 0 
   pub there : rulingCode (fedAt w xs k) ≡ v
   pub no-pass : 0 < v
 
--- Exactly then place k is named with the verdict v. On words that are a state, as in all that follows but the refusal.
+-- Exactly then place k is named with the verdict v, which is no pass. This and all that follows but `RefusedIffNoState` is said of words
+-- that are a state.
 abbrev pub NamesFirstRejected : Type 0
 NamesFirstRejected =
     (ws xs : List ℕ) (found k v : ℕ) → LegalMonitorWords ws
@@ -42,8 +43,8 @@ AllPassOrOneNamed =
     (ws xs : List ℕ) (found : ℕ) → LegalMonitorWords ws
     → (previewOf ws xs found ≡ previewed (length xs) 0) ⊎ ((k : ℕ) × (v : ℕ) × (0 < v) × (previewOf ws xs found ≡ previewed k v))
 
--- What is named, and that all pass, by the call that feeds a list in earnest: by the verdicts that it would leave, where there is a place
--- for each.
+-- What is named, and that all pass, by the call that feeds a list in earnest: by the verdicts that it leaves, where there is a place for
+-- each.
 abbrev pub verdictsOf : List ℕ → List ℕ → List ℕ → List ℤ → List ℕ
 verdictsOf ws xs vs ms = judgedCounts ws xs vs ms .verdicts
 

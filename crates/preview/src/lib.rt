@@ -9,8 +9,8 @@ ghost use Rattle.preview.specs.Steps.{RanAs, LeadingZeros};
 // How many words a monitor has.
 const MONITOR_WORDS: usize = 1_284;
 
-// How many counts are run at a time, as there must be a place for each verdict. A burst made by hand has fewer; in a longer list the
-// set-up of a run is a hundredth of its time, and the places take 4 KiB of the stack.
+// How many counts are run at a time, as there must be a place for each verdict. A burst made by hand has fewer; a longer list takes less
+// than a tenth more of time than one run of it all would (DECISIONS 126), and the places take 4 KiB of the stack.
 const PIECE: usize = 1_024;
 
 // The verdict on a tick that passes.
@@ -41,8 +41,8 @@ fn no_words() -> [u32; MONITOR_WORDS]
     [0u32; MONITOR_WORDS]
 }
 
-// The same on words that may be changed. The first piece asks question 12, of an empty list too; what it leaves is a state, so that no
-// other piece is refused.
+// The same on words that may be changed. Each piece asks question 12, and of an empty list there is one piece too. Only the first can be
+// refused, since what it leaves is a state.
 fn try_counts(words: &mut [u32], counts: &[u32], verdict: &mut u32) -> u64
     ensures { λ r. ⌜ previewed r (now (verdict .exit))
         ≡ previewOf (now (words .entry)) (now (counts .entry)) (now (verdict .entry)) ⌝ }
@@ -52,7 +52,7 @@ fn try_counts(words: &mut [u32], counts: &[u32], verdict: &mut u32) -> u64
     loop {
         let ran = run_piece(words, &counts[i..], &mut verdicts);
         if ran == BAD_STATE {
-            return BAD_STATE;
+            return ran;
         }
         let n = ran as usize;
         let passing = leading_passes(&verdicts[..n]);

@@ -43,7 +43,7 @@ returns : tie.Need-returns Inv-loop μ-loop
 returns c =
     let ran = c .before .before .before .before in
     let s = start ran in
-    ap (previewed (minus 12)) (head ran .loop .inv .3)
+    (λ i. previewed (c .if1 .taken i) (head ran .loop .inv .3 i))
     ∙ sym (preview-bad (s .args .words .now) (s .args .counts .now) (s .args .verdict .now)
     (refused-is (s .args .words .now) (s .args .counts .now) (head ran .loop .words) _ (head ran .loop .verdicts) _ _ (head ran .loop .i)
     (ran .run-piece .result) (head ran .loop .inv .4) (ran .run-piece .ensures) (head ran .loop .inv .2) (c .if1 .taken)))
