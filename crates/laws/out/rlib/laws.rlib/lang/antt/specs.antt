@@ -1,4 +1,0 @@
--- General definitions that the specifications above cite.
-pub mod Ranges
-pub mod Tests
-pub mod Writing
