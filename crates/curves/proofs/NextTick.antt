@@ -30,16 +30,22 @@ last_more xs d h =
     let i : length xs - suc d + 0 ≡ length xs - 1 - d = omega arith in
     omega (arith, rw i at (last_parts xs 1 d (suc d) (omega arith) h))
 
+-- A window with one tick more.
+sum_more : (s : ℕ → ℕ) (i d : ℕ) → sum s i (suc d) ≡ sum s i d + s (i + d)
+unfolding sum
+sum_more s i d = refl
+
 module _ (xs : List ℕ) (x : ℕ) where
   pub length-then : length (then xs x) ≡ suc (length xs)
   length-then = omega (arith, length-append xs (x ∷ []))
 
   -- The window of d + 1 ticks that ends at the new one has its count and the d before it.
   pub last_next : (d : ℕ) → d ≤ length xs → last (then xs x) (suc d) ≡ last xs d + x
-  unfolding sum
   last_next d h =
       let b : length (then xs x) - suc d ≡ length xs - d = omega (arith, length-then) in
-      rw b (omega (arith, sum_start xs (x ∷ []) (length xs - d) d (omega arith), get_or_at xs x [] 0 (length xs - d + d) (omega arith)))
+      let s = sum_start xs (x ∷ []) (length xs - d) d (omega arith) in
+      let e = get_or_at xs x [] 0 (length xs - d + d) (omega arith) in
+      rw b (omega (arith, sum_more (counts_of (then xs x)) (length xs - d) d, s, e))
 
 -- ---- conforming, tick by tick
 pub conforms_keeps : (p : Pair) (xs : List ℕ) → Conforms p xs → Keeps p xs
