@@ -1,6 +1,6 @@
 -- The limits of a pair (document 01, questions 1, 2 and 4): what every operation on a pair asks first, and room for its results.
 use Rattle.std.specs.Prelude.{ℕ, ◌≤◌, ◌≡◌, List, [], ◌∷◌, length}
-use Rattle.std.proofs.Math.Logic.{dec_and}
+use mathlib.Core.Logic.Dec.{and as dec_and}
 use Rattle.std.proofs.Math.Decide.{dec_le, ℕ_discrete}
 use Rattle.laws.proofs.Search.{every?}
 use Rattle.curves.specs.Pairs.{Pair, horizon, figure, FiguresWithin}

@@ -1,5 +1,7 @@
 // The limits of a pair, as every operation on a pair asks about them.
 
+#![tactic(auto)]
+
 ghost use Rattle.std.specs.Prelude.{◌≡◌};
 ghost use Rattle.laws.specs.Tests.{Tells};
 ghost use Rattle.curves.specs.Pairs.{FiguresWithin};
@@ -13,7 +15,7 @@ const MAX_HORIZON: usize = 256;
 const FIGURE_LIMIT: u32 = 16_776_960;
 
 // What asking questions 1, 2 and 4 finds: all are answered yes, or one is the first that is answered no.
-#[derive(Drop)]
+#[derive(Clone, Copy)]
 pub enum Asked {
     Passes,
     // 1: the upper list is not 1 to 256 long.

@@ -66,7 +66,7 @@ fn deconvolve(own: &[u32], other: &[u32], best: &mut [u32])
 }
 
 // Four numbers, one for each of four entries that follow each other.
-#[derive(Drop)]
+#[derive(Clone, Copy)]
 struct Four {
     first: u32,
     second: u32,

@@ -1,5 +1,7 @@
 // Closing a pair of arrival curves: every bound that its figures imply, made explicit, or the answer that no stream conforms to it.
 
+#![tactic(auto)]
+
 mod convolution;
 mod leasts;
 mod round;
@@ -22,7 +24,7 @@ const FIGURE_LIMIT: u32 = 16_776_960;
 const LEAST_LIMIT: u32 = 65_535;
 
 // What closing answers: the closure is in the result lists, or document 01's question is answered no.
-#[derive(Drop)]
+#[derive(Clone, Copy)]
 pub enum Closing {
     // After so many rounds that changed a figure. `unlimited` is the pair's mark, and so the closure's.
     Closed { rounds: u32, unlimited: bool },

@@ -10,7 +10,7 @@ ghost use Rattle.closure.specs.Steps.{SameLengths, Ready, Fit, Advanced, Stopped
 use crate::{Closing, round};
 
 // Where the rounds stop: at a closure, after so many that changed a figure, or at a least above its ceiling.
-#[derive(Drop)]
+#[derive(Clone, Copy)]
 enum Stop {
     Settled { rounds: u32 },
     Crossed,

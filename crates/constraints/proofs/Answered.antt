@@ -5,9 +5,9 @@ use Rattle.curves.specs.Pairs.{Pair}
 use Rattle.curves.specs.Questions.{AllYes, FirstNo}
 use Rattle.curves.proofs.Asked.{yes_append, no_before, no_after}
 use Rattle.bounds.specs.Bounds.{max_horizon}
-use Rattle.csv.specs.Text.{Bytes, records}
-use Rattle.csv.proofs.Splitting.{records_first, record_short}
-use Rattle.csv.specs.Records.{constraint_of}
+use Rattle.csv_text.specs.Text.{Bytes, records}
+use Rattle.csv_text.proofs.Splitting.{records_first, record_short}
+use Rattle.csv_text.specs.Records.{constraint_of}
 use Rattle.constraints.specs.Constraints.{largest_window}
 use Rattle.constraints.specs.Reading.{later, constraints, horizon_of, question6, question10, question11, record_questions}
 use Rattle.constraints.specs.Reading.{reading_questions, refused_reading, reading}

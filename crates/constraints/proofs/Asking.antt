@@ -5,9 +5,9 @@ use Rattle.laws.proofs.Base.{append-nil, ◌↔◌, inl, inr, arith, length, get
 use lib.Seq.{drop-drop}
 use Rattle.curves.specs.Questions.{AllYes, FirstNo, result, refusal}
 use Rattle.curves.proofs.Asked.{no_before}
-use Rattle.csv.specs.Text.{Bytes, records}
-use Rattle.csv.proofs.Splitting.{rest_is, records_first, record_short}
-use Rattle.csv.specs.Records.{most_if, or_else, constraint, first_record, Constraint, constraint_of, InRange}
+use Rattle.csv_text.specs.Text.{Bytes, records}
+use Rattle.csv_text.proofs.Splitting.{rest_is, records_first, record_short}
+use Rattle.csv_text.specs.Records.{most_if, or_else, constraint, first_record, Constraint, constraint_of, InRange}
 use Rattle.records.specs.Recording.{spelt, spelt_by, recording, question7, question8}
 use Rattle.records.proofs.Said.{refused_iff, given_from}
 use Rattle.constraints.specs.Constraints.{New}

@@ -6,10 +6,10 @@ use Rattle.laws.proofs.Tests.{each?, equal_lists?}
 use Rattle.curves.specs.Pairs.{Pair, pair_of}
 use Rattle.curves.specs.Unlimited.{limited, unlimited}
 use Rattle.curves.specs.Questions.{ask}
-use Rattle.csv.specs.Text.{Bytes, comma, crlf, header, records, fields}
-use Rattle.csv.specs.Numbers.{value_after}
-use Rattle.csv.specs.Records.{none, up_to, constraint}
-use Rattle.csv.proofs.Decisions.{digit?, numeral?, numeral_or_empty?, well_formed?, most_within?, in_range?}
+use Rattle.csv_text.specs.Text.{Bytes, comma, crlf, header, records, fields}
+use Rattle.csv_text.specs.Numbers.{value_after}
+use Rattle.csv_text.specs.Records.{none, up_to, constraint}
+use Rattle.csv_text.proofs.Decisions.{digit?, numeral?, numeral_or_empty?, well_formed?, most_within?, in_range?}
 use Rattle.constraints.specs.Reading.{refused_reading, reading}
 use Rattle.constraints.specs.Constraints.{named, filled}
 

@@ -3,8 +3,8 @@ use Rattle.laws.proofs.Base.{ℕ, zero, suc, ◌<◌, ◌≡◌, List, [], ◌�
 use Rattle.laws.proofs.Base.{take}
 use Rattle.curves.specs.Questions.{Question, AllYes, FirstNo}
 use Rattle.curves.proofs.Asked.{no_parts, no_before, no_after}
-use Rattle.csv.specs.Text.{Bytes}
-use Rattle.csv.specs.Records.{Constraint, constraint_of}
+use Rattle.csv_text.specs.Text.{Bytes}
+use Rattle.csv_text.specs.Records.{Constraint, constraint_of}
 use Rattle.records.specs.Recording.{question7, question8}
 use Rattle.constraints.specs.Reading.{later, question6, question9, record_questions, question10, question11, refused_reading, reading}
 use Rattle.constraints.specs.Theorems.{FirstFaulty, RefusedIffFirstFaulty}

@@ -5,8 +5,8 @@ use Rattle.laws.specs.Tests.{Each}
 use Rattle.laws.proofs.Tests.{each_map}
 use Rattle.curves.specs.Questions.{AllYes}
 use Rattle.bounds.specs.Bounds.{max_horizon}
-use Rattle.csv.specs.Text.{Bytes}
-use Rattle.csv.specs.Records.{Most, none, up_to, MostWithin, Constraint, WellFormed, constraint_of, message_limit, InRange}
+use Rattle.csv_text.specs.Text.{Bytes}
+use Rattle.csv_text.specs.Records.{Most, none, up_to, MostWithin, Constraint, WellFormed, constraint_of, message_limit, InRange}
 use Rattle.constraints.specs.Constraints.{New, named, largest_window, smaller_most, smallest_most}
 use Rattle.constraints.specs.Reading.{record_questions}
 

@@ -8,8 +8,8 @@ use Rattle.curves.specs.Unlimited.{AnyPair, limited, unlimited, with_mark, curve
 use Rattle.curves.proofs.Highest.{length-highest}
 use Rattle.curves.specs.Questions.{Question, AllYes, FirstNo}
 use Rattle.curves.proofs.Asked.{said_no, said_yes, yes_parts, Positive, no_iff, yes_iff}
-use Rattle.csv.specs.Text.{Bytes}
-use Rattle.csv.specs.Records.{Most, none, up_to, Constraint, constraint_of}
+use Rattle.csv_text.specs.Text.{Bytes}
+use Rattle.csv_text.specs.Records.{Most, none, up_to, Constraint, constraint_of}
 use Rattle.constraints.specs.Constraints.{smallest_most, least_for, ceiling_for, filled_by}
 use Rattle.constraints.specs.Reading.{later, constraints, horizon_of, text_pair, record_questions, question10, question11}
 use Rattle.constraints.specs.Reading.{reading_questions, ReadingAnswer, refused_reading, put_first, given_reading, reading}

@@ -15,8 +15,8 @@ use Rattle.curves.specs.Questions.{AllYes, ask}
 use Rattle.curves.proofs.Highest.{length-highest}
 use Rattle.curves.proofs.Unlimited.{leasts_alone}
 use Rattle.bounds.specs.Bounds.{max_horizon, figure_limit, pair_questions}
-use Rattle.csv.specs.Text.{Bytes}
-use Rattle.csv.specs.Records.{Most, none, up_to, or_else, MostWithin, Constraint, message_limit, InRange}
+use Rattle.csv_text.specs.Text.{Bytes}
+use Rattle.csv_text.specs.Records.{Most, none, up_to, or_else, MostWithin, Constraint, message_limit, InRange}
 use Rattle.constraints.specs.Reading.{later, constraints, record_questions, reading_questions, reading}
 use Rattle.constraints.specs.Theorems.{GivesPair, TextPairPasses, SatisfiesIffConforms, HorizonWithin}
 use Rattle.constraints.specs.Constraints.{named, largest_window, smaller_most, smallest_most, least_for, ceiling_for, filled_by, filled}

@@ -12,7 +12,7 @@ use Rattle.laws.proofs.Table.{length-table, get_or-table, table_ext, table-set, 
 use Rattle.curves.specs.Pairs.{Pair, pair_of}
 use Rattle.curves.specs.Unlimited.{mark_of}
 use Rattle.bounds.specs.Bounds.{max_horizon}
-use Rattle.csv.specs.Records.{Most, none, up_to, or_else, MostWithin, Constraint, InRange, message_limit}
+use Rattle.csv_text.specs.Records.{Most, none, up_to, or_else, MostWithin, Constraint, InRange, message_limit}
 use Rattle.constraints.specs.Constraints.{New, named, largest_window, smaller_most, smallest_most}
 use Rattle.constraints.specs.Constraints.{least_for, ceiling_for, filled_by, filled}
 use Rattle.constraints.specs.Reading.{put_first}

@@ -5,7 +5,7 @@ use Rattle.laws.specs.Tests.{Each}
 use Rattle.curves.specs.Streams.{sum}
 use Rattle.curves.specs.Pairs.{pair_of}
 use Rattle.curves.specs.Unlimited.{AnyPair, limited, unlimited}
-use Rattle.csv.specs.Records.{Most, none, up_to, or_else, Constraint}
+use Rattle.csv_text.specs.Records.{Most, none, up_to, or_else, Constraint}
 
 -- The constraint's window is named by none of the earlier ones.
 abbrev pub New : List Constraint → Constraint → Type 0

@@ -1,15 +1,15 @@
 -- Reading (document 01, "Triples as CSV text" and questions 6 to 11): text in, two lists lent for results. Questions 7 and 8 are those of a
 -- record.
 use Rattle.std.specs.Prelude.{ℕ, ◌≤◌, ◌≡◌, Bool, false, List, [], ◌∷◌, ◌++◌, map, length, get_or, drop}
-use Rattle.std.proofs.Math.Logic.{dec_and, dec_not}
+use mathlib.Core.Logic.Dec.{and as dec_and, not as dec_not}
 use Rattle.std.proofs.Math.Decide.{dec_le, ℕ_discrete}
 use Rattle.laws.proofs.Tests.{each?, equal_lists?}
 use Rattle.curves.specs.Pairs.{Pair, pair_of}
 use Rattle.curves.specs.Unlimited.{AnyPair, limited, unlimited, mark_of}
 use Rattle.curves.specs.Questions.{Question, answer_to}
 use Rattle.bounds.specs.Bounds.{RoomFor, room_for?}
-use Rattle.csv.specs.Text.{Bytes, header, records}
-use Rattle.csv.specs.Records.{Constraint, constraint_of}
+use Rattle.csv_text.specs.Text.{Bytes, header, records}
+use Rattle.csv_text.specs.Records.{Constraint, constraint_of}
 use Rattle.constraints.specs.Constraints.{New, largest_window, filled}
 use Rattle.records.specs.Recording.{question7, question8}
 

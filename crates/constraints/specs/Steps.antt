@@ -5,8 +5,8 @@ use Rattle.laws.specs.Tests.{Each}
 use Rattle.curves.specs.Pairs.{Pair, pair_of}
 use Rattle.curves.specs.Questions.{AllYes, FirstNo}
 use Rattle.bounds.specs.Bounds.{max_horizon, RoomFor}
-use Rattle.csv.specs.Text.{Bytes}
-use Rattle.csv.specs.Records.{or_else, Constraint, constraint_of, message_limit, InRange}
+use Rattle.csv_text.specs.Text.{Bytes}
+use Rattle.csv_text.specs.Records.{or_else, Constraint, constraint_of, message_limit, InRange}
 use Rattle.constraints.specs.Constraints.{named, largest_window, smallest_most}
 use Rattle.constraints.specs.Reading.{record_questions}
 use Rattle.constraints.specs.declared.Reading.{Reading}

@@ -7,8 +7,8 @@ use Rattle.curves.specs.Unlimited.{AnyPair, with_mark, curves_of}
 use Rattle.curves.specs.Conformance.{Conforms∞}
 use Rattle.curves.specs.Questions.{Question, AllYes, FirstNo}
 use Rattle.bounds.specs.Bounds.{max_horizon, pair_questions}
-use Rattle.csv.specs.Text.{Bytes}
-use Rattle.csv.specs.Records.{constraint_of, message_limit}
+use Rattle.csv_text.specs.Text.{Bytes}
+use Rattle.csv_text.specs.Records.{constraint_of, message_limit}
 use Rattle.records.specs.Recording.{question7, question8}
 use Rattle.constraints.specs.Constraints.{Satisfies}
 use Rattle.constraints.specs.Reading.{later, constraints, horizon_of, text_pair, question6, question9}

@@ -1,11 +1,13 @@
 // Constraints (triples) as CSV text: reading the pair of arrival curves that they stand for.
 
+#![tactic(auto)]
+
 mod table;
 
 ghost use Rattle.std.specs.Prelude.{◌≡◌, [], ◌≤◌, length, drop};
 ghost use Rattle.laws.specs.Tests.{Tells};
 ghost use Rattle.curves.specs.Pairs.{pair_of};
-ghost use Rattle.csv.specs.Text.{header, records};
+ghost use Rattle.csv_text.specs.Text.{header, records};
 ghost use Rattle.constraints.specs.Reading.{text_limit, reading};
 ghost use Rattle.constraints.specs.Answers.{reading_answer};
 ghost use Rattle.constraints.specs.Steps.{no_most, table_of, TableHolds, Sized, Scanned, PairDelivered};
@@ -18,7 +20,7 @@ const MAX_TEXT: usize = 16_384;
 const HEADER_LINE: usize = 19;
 
 // What reading answers: the pair is in the result lists, or document 01's question is answered no.
-#[derive(Drop)]
+#[derive(Clone, Copy)]
 pub enum Reading {
     // The pair's horizon, and its mark: `unlimited` where no record has a most, and then the pair has no ceilings.
     Read { horizon: usize, unlimited: bool },
@@ -37,7 +39,7 @@ pub enum Reading {
 }
 
 // What is wrong with the first faulty record: its form, a figure's range, or that its window was named before.
-#[derive(Drop)]
+#[derive(Clone, Copy)]
 enum Fault {
     // No record is faulty.
     Sound,
@@ -48,7 +50,7 @@ enum Fault {
 
 // The records read: the fault of the first faulty one; or of all constraints the largest window, 0 where there is none, and the smallest
 // most, `NO_MOST` where none is given.
-#[derive(Drop)]
+#[derive(Clone, Copy)]
 struct Scan {
     fault: Fault,
     horizon: usize,

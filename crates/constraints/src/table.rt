@@ -3,7 +3,7 @@
 ghost use Rattle.std.specs.Prelude.{◌≡◌, ◌++◌, cond, ◌*◌, ◌≤◌, min, max, ltb, length, replicate, drop};
 ghost use Rattle.laws.specs.Ranges.{table};
 ghost use Rattle.bounds.specs.Bounds.{max_horizon};
-ghost use Rattle.csv.specs.Records.{most_if, or_else, message_limit};
+ghost use Rattle.csv_text.specs.Records.{most_if, or_else, message_limit};
 ghost use Rattle.constraints.specs.Steps.{no_most, unnamed, ceiling_in, least_in};
 
 // The longest window, and the largest most.

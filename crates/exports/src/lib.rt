@@ -1,5 +1,7 @@
 // The boundary to C and to Rust: the operations on numbers and lists alone. `include/calgedze.h` says what a caller has to know.
 
+#![tactic(auto)]
+
 ghost use Rattle.std.specs.Prelude.{◌≡◌, ◌≤◌, length};
 ghost use Rattle.laws.specs.Writing.{over};
 ghost use Rattle.curves.specs.Pairs.{pair_of};

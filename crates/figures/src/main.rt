@@ -1,4 +1,7 @@
 // The figures program: constraint text on standard input, its closed curves on standard output.
+
+#![tactic(auto)]
+
 ghost use Rattle.std.specs.Prelude.{length};
 ghost use Rattle.figures.specs.Steps.{Fits};
 
@@ -8,7 +11,7 @@ use libc::{STDIN_FILENO, STDOUT_FILENO};
 const ROOM: usize = 16_385;
 
 // What was read of the input: so many bytes, or a read failed.
-#[derive(Drop)]
+#[derive(Clone, Copy)]
 enum Input {
     Bytes(usize),
     Failed,

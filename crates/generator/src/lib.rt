@@ -1,5 +1,7 @@
 // The generator (document 01's maker): sends, tick after tick, a count that keeps every window that ends there.
 
+#![tactic(auto)]
+
 ghost use Rattle.std.specs.Prelude.{◌≡◌, min, max, ◌+◌, ◌-◌, ◌≤◌, true};
 ghost use Rattle.curves.specs.Unlimited.{with_mark};
 ghost use Rattle.history.specs.States.{history_of, view_of};
@@ -25,14 +27,14 @@ const COUNT_LIMIT: u64 = 16_776_960;
 const SUM_LIMIT: u64 = 1_099_511_627_776;
 
 // Anyone may build one.
-#[derive(Drop)]
+#[derive(Clone, Copy)]
 pub struct Generator {
     pub history: History,
 }
 
 // What opening a generator answers: the state is ready, or one of document 01's questions, or request P3's 15, is the first that is
 // answered no.
-#[derive(Drop)]
+#[derive(Clone, Copy)]
 pub enum GeneratorOpening {
     Opened,
     // 1: the upper list is not 1 to 256 long.
@@ -46,14 +48,14 @@ pub enum GeneratorOpening {
     NotClosed,
 }
 
-#[derive(Drop)]
+#[derive(Clone, Copy)]
 pub struct OpenedGenerator {
     pub opening: GeneratorOpening,
     pub state: Generator,
 }
 
 // What the range (document 01's look at lo and hi) shows.
-#[derive(Drop)]
+#[derive(Clone, Copy)]
 pub enum Admissible {
     // The smallest and the largest count that can be sent.
     Range { lo: u32, hi: u32 },
@@ -64,7 +66,7 @@ pub enum Admissible {
     NoCount,
 }
 
-#[derive(Drop)]
+#[derive(Clone, Copy)]
 pub enum Sending {
     Sent { count: u32 },
     // 12 and 13, as above.
@@ -72,14 +74,14 @@ pub enum Sending {
     NoCount,
 }
 
-#[derive(Drop)]
+#[derive(Clone, Copy)]
 pub struct Sent {
     pub sending: Sending,
     pub next: Generator,
 }
 
 // The counts from `lo` to before `end`; none where `end` is not above `lo`.
-#[derive(Drop)]
+#[derive(Clone, Copy)]
 struct Limits {
     lo: u64,
     end: u64,

@@ -25,9 +25,9 @@ use Rattle.closure.specs.Theorems.{GivesClosure, closure_of, room}
 use Rattle.closure.proofs.Said.{refused_is, closed_is, fifth}
 use Rattle.closure.proofs.Room.{four_yes, room_passes}
 use Rattle.closure.proofs.Given.{arrived, given_even}
-use Rattle.csv.specs.Text.{Bytes, records, fields}
-use Rattle.csv.specs.Numbers.{value_after}
-use Rattle.csv.proofs.Decisions.{digit?, numeral?, numeral_or_empty?, most_within?, well_formed?, in_range?}
+use Rattle.csv_text.specs.Text.{Bytes, records, fields}
+use Rattle.csv_text.specs.Numbers.{value_after}
+use Rattle.csv_text.proofs.Decisions.{digit?, numeral?, numeral_or_empty?, most_within?, well_formed?, in_range?}
 use Rattle.constraints.specs.Constraints.{named}
 use Rattle.constraints.specs.Reading.{later, horizon_of, text_pair, question6, record_questions, question10}
 use Rattle.constraints.proofs.Said.{pair_iff_all_yes, given_is_text_pair}

@@ -14,11 +14,11 @@ use Rattle.curves.proofs.Highest.{length-highest}
 use Rattle.curves.specs.Questions.{AllYes}
 use Rattle.curves.proofs.Asked.{yes_append}
 use Rattle.bounds.specs.Bounds.{pair_questions, RoomFor}
-use Rattle.csv.specs.Text.{Bytes, comma, cr, crlf, header, records, fields}
-use Rattle.csv.specs.Numbers.{Digit, Numeral, value, last_digits, decimal}
-use Rattle.csv.proofs.Joining.{records_join, fields_join, fields_last}
-use Rattle.csv.proofs.Numbers.{value_decimal, decimal_digits, numeral_decimal}
-use Rattle.csv.specs.Records.{Most, none, up_to, or_else, MostWithin, Constraint, WellFormed, most_of, constraint, constraint_of, message_limit}
+use Rattle.csv_text.specs.Text.{Bytes, comma, cr, crlf, header, records, fields}
+use Rattle.csv_text.specs.Numbers.{Digit, Numeral, value, last_digits, decimal}
+use Rattle.csv_text.proofs.Joining.{records_join, fields_join, fields_last}
+use Rattle.csv_text.proofs.Numbers.{value_decimal, decimal_digits, numeral_decimal}
+use Rattle.csv_text.specs.Records.{Most, none, up_to, or_else, MostWithin, Constraint, WellFormed, most_of, constraint, constraint_of, message_limit}
 use Rattle.constraints.specs.Constraints.{named, smaller_most, smallest_most, least_for, ceiling_for, filled_by, filled}
 use Rattle.constraints.specs.Reading.{later, constraints, horizon_of, text_pair, record_questions, question10, question11, reading_questions}
 use Rattle.constraints.proofs.Named.{named_own, one_more, window_largest, largest_le}

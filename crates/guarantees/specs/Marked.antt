@@ -7,7 +7,7 @@ use Rattle.curves.specs.Unlimited.{limited, EqualPairs}
 use Rattle.curves.specs.Conformance.{Conforms}
 use Rattle.curves.specs.Questions.{result, refusal}
 use Rattle.closure.specs.Closing.{refused_closing, given_closing, closing}
-use Rattle.csv.specs.Text.{Bytes, comma, crlf, header}
+use Rattle.csv_text.specs.Text.{Bytes, comma, crlf, header}
 use Rattle.constraints.specs.Theorems.{GivesPair, given_pair}
 use Rattle.history.specs.States.{View, history_of, view_of}
 use Rattle.history.specs.Opening.{fresh}

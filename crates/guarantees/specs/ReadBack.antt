@@ -3,8 +3,8 @@ use Rattle.std.specs.Prelude.{◌≡◌, take}
 use Rattle.curves.specs.Pairs.{Pair, horizon}
 use Rattle.curves.specs.Unlimited.{AnyPair, curves_of, AllWithin}
 use Rattle.bounds.specs.Bounds.{RoomFor}
-use Rattle.csv.specs.Text.{Bytes}
-use Rattle.csv.specs.Records.{message_limit}
+use Rattle.csv_text.specs.Text.{Bytes}
+use Rattle.csv_text.specs.Records.{message_limit}
 use Rattle.constraints.specs.Theorems.{GivesPair, given_pair}
 use Rattle.rendering.specs.Rendering.{rendering}
 

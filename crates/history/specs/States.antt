@@ -1,6 +1,6 @@
 -- States (document 01, "Monitor and maker"): the view of one, which is all that is compared and has an effect, and question 12.
 use Rattle.std.specs.Prelude.{ℕ, ◌-◌, ◌<◌, Bool, List, [], ◌∷◌, length}
-use Rattle.std.proofs.Math.Logic.{dec_and}
+use mathlib.Core.Logic.Dec.{and as dec_and}
 use Rattle.std.proofs.Math.Decide.{dec_lt}
 use Rattle.laws.specs.Ranges.{table}
 use Rattle.curves.specs.Pairs.{horizon, figure}

@@ -1,5 +1,7 @@
 // What a monitor's and a generator's state have in common: the pair, and the last ticks of the stream (document 01's held ticks).
 
+#![tactic(auto)]
+
 ghost use Rattle.std.specs.Prelude.{◌≡◌, ◌≤◌, length};
 ghost use Rattle.curves.specs.Unlimited.{with_mark};
 ghost use Rattle.curves.specs.Questions.{AllYes};
@@ -18,7 +20,7 @@ const MAX_HORIZON: usize = 256;
 const FIGURE_LIMIT: u32 = 16_776_960;
 
 // Anyone may build one. Entries of the figures past the horizon, and of the ticks past the held ones, have no effect.
-#[derive(Drop)]
+#[derive(Clone, Copy)]
 pub struct History {
     pub horizon: usize,
     // The figures of both curves; entry 0 for the window of one tick.
@@ -33,7 +35,7 @@ pub struct History {
 }
 
 // What opening a history answers: it is ready, or document 01's question is answered no. A monitor's and a generator's opening ask more.
-#[derive(Drop)]
+#[derive(Clone, Copy)]
 pub enum Opening {
     Opened,
     // 1: the upper list is not 1 to 256 long.
@@ -45,14 +47,14 @@ pub enum Opening {
 }
 
 // What an opening hands out.
-#[derive(Drop)]
+#[derive(Clone, Copy)]
 pub struct OpenedHistory {
     pub opening: Opening,
     pub history: History,
 }
 
 // What asking question 12 finds: every operation on a state asks it first.
-#[derive(Drop)]
+#[derive(Clone, Copy)]
 pub enum Legality {
     Legal,
     // 12: the horizon is not 1 to 256, a figure is above 16,776,960, or as many ticks are held as the horizon has or more.

@@ -1,1 +1,3 @@
 // No function: laws that the specifications and proofs above cite.
+
+#![tactic(auto)]

@@ -2,6 +2,9 @@
 // ceilings of 65,535 and 65,536, pairs of nine rounds and of eight, and states that anyone could build but no opening and no tick hands
 // out, among them a generator with nothing to send; and streams on monitors as an opening hands them out, as no margin crosses the boundary
 // to C. All of these with ceilings, and without. Each line is what was tried and what came back; the outside tests compute the same lines.
+
+#![tactic(auto)]
+
 mod draws;
 mod lists;
 mod numbers;

@@ -1,5 +1,7 @@
 // Lists of figures and of counts.
 
+#![tactic(auto)]
+
 ghost use Rattle.std.specs.Prelude.{◌≡◌, ◌+◌, ◌≤◌, min, length, replicate};
 ghost use Rattle.lists.specs.Copying.{Copied};
 ghost use Rattle.lists.specs.Pushing.{Pushed, PushedAll};

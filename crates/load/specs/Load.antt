@@ -1,6 +1,6 @@
 -- Request P13, repeatable load: a generator's ticks with choices that a seed settles.
 use Rattle.std.specs.Prelude.{ℕ, zero, suc, ◌*◌, ◌%◌, ◌≤◌, List, [], ◌∷◌, map, length}
-use Rattle.std.proofs.Math.Logic.{dec_and}
+use mathlib.Core.Logic.Dec.{and as dec_and}
 use Rattle.std.proofs.Math.Decide.{dec_le}
 use Rattle.laws.specs.Ranges.{table}
 use Rattle.laws.specs.Tests.{Each}

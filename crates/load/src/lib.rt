@@ -1,5 +1,7 @@
 // A load (request P13): a generator's ticks with choices that a seed settles, so that two benches send the same traffic.
 
+#![tactic(auto)]
+
 ghost use Rattle.std.specs.Prelude.{◌≡◌, true, min, ◌≤◌, length, replicate};
 ghost use Rattle.laws.specs.Tests.{Tells};
 ghost use Rattle.history.specs.States.{view_of};

@@ -1,7 +1,7 @@
 -- A tick of the monitor, document 01's line monitor ("Monitor and maker"), with request P2's answer 'lost'; on pairs without ceilings, too
 -- (request P7).
 use Rattle.std.specs.Prelude.{ℕ, ◌≡◌, Bool, true, false, cond, List, [], ◌∷◌}
-use Rattle.std.proofs.Math.Logic.{dec_and}
+use mathlib.Core.Logic.Dec.{and as dec_and}
 use Rattle.curves.specs.Pairs.{Pair, pair_of}
 use Rattle.curves.specs.Unlimited.{AnyPair, limited, unlimited, curves_of, alike}
 use Rattle.curves.specs.Ticks.{then, Verdict, passed, too_many, too_few, Right}

@@ -1,5 +1,7 @@
 // The monitor (document 01's line monitor): judges each tick of a stream by the windows that end there.
 
+#![tactic(auto)]
+
 mod start;
 mod windows;
 
@@ -18,7 +20,7 @@ use history::{History, Legality};
 const MAX_HORIZON: usize = 256;
 
 // Anyone may build one. Entries of the closed figures past the horizon have no effect.
-#[derive(Drop)]
+#[derive(Clone, Copy)]
 pub struct Monitor {
     // The pair as given, and the held ticks.
     pub history: History,
@@ -30,7 +32,7 @@ pub struct Monitor {
 }
 
 // What opening a monitor answers: the state is ready, or one of document 01's questions is the first that is answered no.
-#[derive(Drop)]
+#[derive(Clone, Copy)]
 pub enum MonitorOpening {
     Opened,
     // 1: the upper list is not 1 to 256 long.
@@ -43,14 +45,14 @@ pub enum MonitorOpening {
     NoClosure,
 }
 
-#[derive(Drop)]
+#[derive(Clone, Copy)]
 pub struct OpenedMonitor {
     pub opening: MonitorOpening,
     pub state: Monitor,
 }
 
 // What a tick is found to be.
-#[derive(Drop)]
+#[derive(Clone, Copy)]
 pub enum Verdict {
     Passed,
     // The shortest window that ends at the tick and is outside its figures as given: it has too many, or too few.
@@ -66,7 +68,7 @@ pub enum Verdict {
     BadState,
 }
 
-#[derive(Drop)]
+#[derive(Clone, Copy)]
 pub struct Judgement {
     pub verdict: Verdict,
     // How near the tick came to the figures as given: the smallest margin of the windows that end there, negative where one is outside,

@@ -6,7 +6,7 @@ ghost use Rattle.curves.specs.Pairs.{pair_of};
 ghost use Rattle.curves.specs.Unlimited.{with_mark};
 ghost use Rattle.curves.specs.Ticks.{then, Keeps};
 ghost use Rattle.curves.specs.Margins.{Tightest};
-ghost use Rattle.curves.specs.Questions.{result};
+ghost use Rattle.curves.specs.Questions.{result as answer};
 ghost use Rattle.history.specs.Steps.{Slices, view_with};
 ghost use Rattle.monitor.specs.Monitoring.{judged, verdict_on};
 ghost use Rattle.monitor.specs.Answers.{verdict_reply};
@@ -16,7 +16,7 @@ use crate::Verdict;
 
 // What is found of a tick. The verdict alone would tell whether it passes; but where the verdict's cases decide whether the tick is held,
 // the compiler copies the state for each of them.
-#[derive(Drop)]
+#[derive(Clone, Copy)]
 pub(crate) struct Finding {
     pub(crate) verdict: Verdict,
     pub(crate) margin: Margin,
@@ -24,7 +24,7 @@ pub(crate) struct Finding {
 }
 
 // A margin, and the window that has it.
-#[derive(Drop)]
+#[derive(Clone, Copy)]
 pub(crate) struct Margin {
     pub(crate) value: i64,
     pub(crate) window: usize,
@@ -44,7 +44,7 @@ pub(crate) fn rule(
 ) -> Finding
     requires slices { Slices upper.now lower.now ticks.now }
     requires fits_after { FitsAfter earlier ticks.now count }
-    ensures* { λ r. ⌜ RuledAfter earlier upper.now lower.now unlimited ticks.now count r ⌝ }
+    ensures { RuledAfter earlier upper.now lower.now unlimited ticks.now count result }
 {
     if !earlier.passes {
         return earlier;
@@ -70,7 +70,7 @@ pub(crate) fn rule(
 // The margin tells whether a tick keeps the figures: only where it does not are these gone through again, for the shortest window outside.
 fn measure(upper: &[u32], lower: &[u32], unlimited: bool, ticks: &[u32], count: u32) -> Finding
     requires { Slices upper.now lower.now ticks.now }
-    ensures* { λ r. ⌜ MeasuredOf (view_with upper.now lower.now unlimited ticks.now) count r ⌝ }
+    ensures { MeasuredOf (view_with upper.now lower.now unlimited ticks.now) count result }
 {
     let margin = find_tightest(upper, lower, unlimited, ticks, count);
     if margin.value < 0 {
@@ -92,8 +92,8 @@ fn measure(upper: &[u32], lower: &[u32], unlimited: bool, ticks: &[u32], count: 
 // outside both ways: 'too many' is looked at first, where there are ceilings. It is called where some window is outside, and then names one.
 fn judge(upper: &[u32], lower: &[u32], unlimited: bool, ticks: &[u32], count: u32) -> Verdict
     requires { Slices upper.now lower.now ticks.now }
-    ensures* { λ r. ⌜ verdict_reply r
-        ≡ result (judged (verdict_on (view_with upper.now lower.now unlimited ticks.now) count)) ⌝ }
+    ensures { verdict_reply result
+        ≡ answer (judged (verdict_on (view_with upper.now lower.now unlimited ticks.now) count)) }
 {
     let held = ticks.len();
     let mut sum = count as u64;
@@ -118,8 +118,8 @@ fn judge(upper: &[u32], lower: &[u32], unlimited: bool, ticks: &[u32], count: u3
 // shortest.
 fn find_tightest(upper: &[u32], lower: &[u32], unlimited: bool, ticks: &[u32], count: u32) -> Margin
     requires { Slices upper.now lower.now ticks.now }
-    ensures* { λ r. ⌜ Tightest (with_mark upper.now lower.now unlimited) (then ticks.now count)
-        (margin_as r) ⌝ }
+    ensures { Tightest (with_mark upper.now lower.now unlimited) (then ticks.now count)
+        (margin_as result) }
 {
     let held = ticks.len();
     let mut sum = count as u64;
@@ -151,7 +151,7 @@ fn tighter(
     window: usize,
 ) -> Margin
     requires { sum ≤ window_limit }
-    ensures* { λ r. ⌜ r ≡ tighter_of best (margin_with unlimited ceiling least sum) window ⌝ }
+    ensures { result ≡ tighter_of best (margin_with unlimited ceiling least sum) window }
 {
     let value = margin_between(ceiling, least, unlimited, sum);
     if value < best.value {
@@ -164,7 +164,7 @@ fn tighter(
 // the sum is outside.
 fn margin_between(ceiling: u32, least: u32, unlimited: bool, sum: u64) -> i64
     requires { sum ≤ window_limit }
-    ensures* { λ r. ⌜ r ≡ margin_with unlimited ceiling least sum ⌝ }
+    ensures { result ≡ margin_with unlimited ceiling least sum }
 {
     let total = sum as i64;
     let above = ceiling as i64 - total;
@@ -180,7 +180,7 @@ fn margin_between(ceiling: u32, least: u32, unlimited: bool, sum: u64) -> i64
 fn keeps(upper: &[u32], lower: &[u32], ticks: &[u32], count: u32) -> bool
     requires slices { Slices upper.now lower.now ticks.now }
     requires fits { Fits ticks.now count }
-    ensures* { λ r. ⌜ Tells r (Keeps (pair_of upper.now lower.now) (then ticks.now count)) ⌝ }
+    ensures { Tells result (Keeps (pair_of upper.now lower.now) (then ticks.now count)) }
 {
     if !inside(lower[0], count, upper[0]) {
         return false;
@@ -206,7 +206,7 @@ fn keeps(upper: &[u32], lower: &[u32], ticks: &[u32], count: u32) -> bool
 
 // Whether a sum is from its least to its ceiling.
 fn inside(least: u32, sum: u32, ceiling: u32) -> bool
-    ensures* { λ r. ⌜ Tells r ((least ≤ sum) × (sum ≤ ceiling)) ⌝ }
+    ensures { Tells result ((least ≤ sum) × (sum ≤ ceiling)) }
 {
     (least <= sum) & (sum <= ceiling)
 }

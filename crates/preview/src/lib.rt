@@ -1,6 +1,8 @@
 // Trying a list of counts on a monitor before it is sent (request P11): the counts go to a copy of its words, by the run that judges them
 // in earnest.
 
+#![tactic(auto)]
+
 ghost use Rattle.std.specs.Prelude.{◌≡◌, replicate};
 ghost use Rattle.preview.specs.Preview.{previewed, preview_of};
 ghost use Rattle.preview.specs.Steps.{RanAs, LeadingZeros};

@@ -2,10 +2,10 @@
 use Rattle.laws.proofs.Base.{◌≡◌, refl, [], ◌∷◌, ◌++◌, ⊎_map, dec_and, dec_le, ℕ_discrete}
 use Rattle.laws.proofs.Tests.{each?, equal_lists?}
 use Rattle.curves.specs.Questions.{ask, result, refusal}
-use Rattle.csv.specs.Text.{comma, crlf, records, fields}
-use Rattle.csv.specs.Numbers.{value_after}
-use Rattle.csv.specs.Records.{none, up_to, constraint, first_record}
-use Rattle.csv.proofs.Decisions.{digit?, numeral?, numeral_or_empty?, well_formed?, most_within?, in_range?}
+use Rattle.csv_text.specs.Text.{comma, crlf, records, fields}
+use Rattle.csv_text.specs.Numbers.{value_after}
+use Rattle.csv_text.specs.Records.{none, up_to, constraint, first_record}
+use Rattle.csv_text.proofs.Decisions.{digit?, numeral?, numeral_or_empty?, well_formed?, most_within?, in_range?}
 use Rattle.records.specs.Recording.{spelt, recording}
 
 -- `12,0,3` and a record after it: 6 bytes spell the first.

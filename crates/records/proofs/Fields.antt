@@ -4,10 +4,10 @@ use Rattle.laws.proofs.Base.{ℕ, ◌+◌, ◌-◌, ◌≤◌, ◌<◌, ◌≡�
 use Rattle.laws.proofs.Base.{arith, eqb, length, get_or, take, drop}
 use Rattle.laws.specs.Tests.{Each}
 use Rattle.curves.specs.Questions.{refusal}
-use Rattle.csv.specs.Text.{Bytes, comma, on_first, fields}
-use Rattle.csv.specs.Numbers.{Digit, Numeral, value_after, value}
-use Rattle.csv.proofs.Splitting.{rest_is, HeadField, head_field_lem}
-use Rattle.csv.specs.Records.{first_record, WellFormed, InRange}
+use Rattle.csv_text.specs.Text.{Bytes, comma, on_first, fields}
+use Rattle.csv_text.specs.Numbers.{Digit, Numeral, value_after, value}
+use Rattle.csv_text.proofs.Splitting.{rest_is, HeadField, head_field_lem}
+use Rattle.csv_text.specs.Records.{first_record, WellFormed, InRange}
 use Rattle.records.specs.Recording.{recording}
 use Rattle.records.specs.Answers.{record_reply}
 use Rattle.records.specs.Steps.{first_field, CommaAt, Numbered, RangeChecked, Numerals, constraint_in, Figured}

@@ -3,7 +3,7 @@
 use Rattle.laws.proofs.Base.{ℕ, ◌≡◌, refl, [], ◌∷◌, ◌↔◌}
 use Rattle.curves.specs.Questions.{AllYes, FirstNo, result, refusal}
 use Rattle.curves.proofs.Asked.{said_yes, refusal_iff, result_from}
-use Rattle.csv.specs.Text.{Bytes}
+use Rattle.csv_text.specs.Text.{Bytes}
 use Rattle.records.specs.Recording.{question7, question8, Spelt, spelt_by, recording}
 
 module _ (r : Bytes) where

@@ -6,8 +6,8 @@ use native.Mathlib.Nat.{pow-suc, pow-le-pow_right}
 use lib.ListN.{get_or-eq_default}
 use Rattle.laws.specs.Tests.{Tells, Each}
 use Rattle.laws.proofs.Tests.{tells_same, eqb_told}
-use Rattle.csv.specs.Text.{Bytes, comma, cr, lf}
-use Rattle.csv.specs.Numbers.{Digit, value_after, value}
+use Rattle.csv_text.specs.Text.{Bytes, comma, cr, lf}
+use Rattle.csv_text.specs.Numbers.{Digit, value_after, value}
 use Rattle.records.specs.Steps.{LineEnd, FieldEnd, CommaAt}
 
 -- The byte that the rest of a text begins with.

@@ -2,7 +2,7 @@
 use Rattle.curves.specs.Questions.{Reply, result, refusal}
 use Rattle.records.specs.declared.Record.{Record}
 use Rattle.records.specs.declared.Record.TheVariants.{Spells, Malformed, OutOfRange}
-use Rattle.csv.specs.Records.{most_if, constraint}
+use Rattle.csv_text.specs.Records.{most_if, constraint}
 use Rattle.records.specs.Recording.{Spelt, spelt}
 
 abbrev pub record_reply : Record → Reply Spelt

@@ -1,9 +1,9 @@
 -- Reading one record (document 01, questions 7 and 8).
 use Rattle.std.specs.Prelude.{ℕ, [], ◌∷◌, length}
 use Rattle.curves.specs.Questions.{Question, Reply, reply_to}
-use Rattle.csv.specs.Text.{Bytes}
-use Rattle.csv.specs.Records.{Constraint, or_else, WellFormed, constraint_of, InRange}
-use Rattle.csv.proofs.Decisions.{well_formed?, in_range?}
+use Rattle.csv_text.specs.Text.{Bytes}
+use Rattle.csv_text.specs.Records.{Constraint, or_else, WellFormed, constraint_of, InRange}
+use Rattle.csv_text.proofs.Decisions.{well_formed?, in_range?}
 
 -- 7. The record's form.
 abbrev pub question7 : Bytes → Question

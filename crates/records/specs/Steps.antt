@@ -1,12 +1,12 @@
 -- What the private functions of this crate promise each other. No public promise cites anything of it.
 use Rattle.std.specs.Prelude.{ℕ, ◌<◌, ◌≡◌, Bool, [], ◌⊎◌, length, get_or}
-use Rattle.csv.specs.Text.{Bytes, comma, cr, lf, fields}
-use Rattle.csv.specs.Numbers.{Numeral, value}
+use Rattle.csv_text.specs.Text.{Bytes, comma, cr, lf, fields}
+use Rattle.csv_text.specs.Numbers.{Numeral, value}
 use Rattle.records.specs.declared.Parsed.{Parsed}
 use Rattle.records.specs.declared.Parsed.TheVariants.{Value, NoNumeral}
 use Rattle.records.specs.declared.Record.{Record}
 use Rattle.records.specs.declared.Record.TheVariants.{Spells, Malformed, OutOfRange}
-use Rattle.csv.specs.Records.{up_to, most_if, or_else, Constraint, constraint, most_of, InRange}
+use Rattle.csv_text.specs.Records.{up_to, most_if, or_else, Constraint, constraint, most_of, InRange}
 use Rattle.records.specs.Recording.{spelt}
 
 -- CR LF stands at the beginning.

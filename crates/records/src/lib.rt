@@ -1,8 +1,10 @@
 // One record of a constraint text: its part of the text, its fields, their numbers.
 
+#![tactic(auto)]
+
 ghost use Rattle.std.specs.Prelude.{◌≡◌, ◌<◌, length, drop};
 ghost use Rattle.laws.specs.Tests.{Tells};
-ghost use Rattle.csv.specs.Records.{first_record};
+ghost use Rattle.csv_text.specs.Records.{first_record};
 ghost use Rattle.records.specs.Recording.{recording};
 ghost use Rattle.records.specs.Answers.{record_reply};
 ghost use Rattle.records.specs.Steps.{LineEnd, FieldEnd, CommaAt, first_field, Numbered, RangeChecked, Figured};
@@ -15,7 +17,7 @@ const MESSAGE_LIMIT: u32 = 65_535;
 const MAX_DIGITS: usize = 5;
 
 // What the record that a text begins with is found to be, or document 01's question that is answered no.
-#[derive(Drop)]
+#[derive(Clone, Copy)]
 pub enum Record {
     // A constraint with its figures in range, and how many bytes spell it. `capped` says whether it has a most, which is 0 if not.
     Spells {
@@ -32,7 +34,7 @@ pub enum Record {
 }
 
 // What a field spells.
-#[derive(Drop)]
+#[derive(Clone, Copy)]
 enum Parsed {
     Value(u32),
     NoNumeral,

@@ -5,7 +5,7 @@ use Rattle.laws.proofs.Writing.{sets_copies}
 use Rattle.curves.specs.Unlimited.{AnyPair}
 use Rattle.curves.specs.Questions.{FirstNo}
 use Rattle.bounds.specs.Bounds.{pair_questions}
-use Rattle.csv.specs.Text.{Bytes}
+use Rattle.csv_text.specs.Text.{Bytes}
 use Rattle.rendering.specs.declared.Rendering.{Rendering}
 use Rattle.rendering.specs.declared.Rendered.{Rendered}
 use Rattle.rendering.specs.Rendering.{RenderingAnswer, longest, padded_text, written, rendering}

@@ -11,10 +11,10 @@ use Rattle.curves.specs.Unlimited.{AnyPair, limited, unlimited, with_mark, curve
 use Rattle.curves.proofs.Highest.{horizon_with, lower_with}
 use Rattle.curves.specs.Questions.{AllYes}
 use Rattle.bounds.specs.Bounds.{max_horizon, figure_limit, pair_questions}
-use Rattle.csv.specs.Text.{Bytes, header, crlf}
-use Rattle.csv.specs.Numbers.{decimal}
-use Rattle.csv.specs.Records.{Most, none, up_to, most_if, MostWithin}
-use Rattle.csv.proofs.Numbers.{decimal_step, decimal_few}
+use Rattle.csv_text.specs.Text.{Bytes, header, crlf}
+use Rattle.csv_text.specs.Numbers.{decimal}
+use Rattle.csv_text.specs.Records.{Most, none, up_to, most_if, MostWithin}
+use Rattle.csv_text.proofs.Numbers.{decimal_step, decimal_few}
 use Rattle.rendering.specs.Rendering.{most_field, line, most_at, text_of, longest}
 use Rattle.rendering.specs.Steps.{line_length}
 

@@ -6,8 +6,8 @@ use Rattle.curves.specs.Unlimited.{AnyPair, curves_of}
 use Rattle.curves.specs.Questions.{AllYes, FirstNo}
 use Rattle.curves.proofs.Asked.{said_no, said_yes, Positive, no_iff, yes_iff}
 use Rattle.bounds.specs.Bounds.{pair_questions}
-use Rattle.csv.specs.Numbers.{decimal}
-use Rattle.csv.proofs.Numbers.{decimal_few}
+use Rattle.csv_text.specs.Numbers.{decimal}
+use Rattle.csv_text.proofs.Numbers.{decimal_few}
 use Rattle.rendering.specs.Rendering.{longest, text_of, refusal_line, refused_rendering, written, rendering}
 use Rattle.rendering.specs.Theorems.{RenderingRefused, WrittenIffAllYes, TextFits, RefusalFits}
 use Rattle.rendering.proofs.Laws.{text_whole, text_within}

@@ -6,9 +6,9 @@ use Rattle.curves.specs.Pairs.{horizon, upper_at, lower_at}
 use Rattle.curves.specs.Unlimited.{AnyPair, limited, unlimited, curves_of}
 use Rattle.curves.specs.Questions.{answer_to}
 use Rattle.bounds.specs.Bounds.{pair_questions}
-use Rattle.csv.specs.Text.{Bytes, comma, crlf, header}
-use Rattle.csv.specs.Numbers.{decimal}
-use Rattle.csv.specs.Records.{Most, none, up_to}
+use Rattle.csv_text.specs.Text.{Bytes, comma, crlf, header}
+use Rattle.csv_text.specs.Numbers.{decimal}
+use Rattle.csv_text.specs.Records.{Most, none, up_to}
 
 -- A most as a field: in digits, or empty where there is none (request P7).
 abbrev pub most_field : Most → Bytes

@@ -1,7 +1,7 @@
 -- What the private functions of this crate promise each other. `render`'s promise cites nothing of it.
 use Rattle.std.specs.Prelude.{ℕ, ◌+◌, length}
-use Rattle.csv.specs.Numbers.{decimal}
-use Rattle.csv.specs.Records.{Most}
+use Rattle.csv_text.specs.Numbers.{decimal}
+use Rattle.csv_text.specs.Records.{Most}
 use Rattle.rendering.specs.Rendering.{most_field}
 
 -- How many bytes a record has: its digits, two commas and CR LF.

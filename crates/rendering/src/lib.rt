@@ -1,5 +1,7 @@
 // Rendering a pair of arrival curves as constraint text: the header line, then a record for every window.
 
+#![tactic(auto)]
+
 mod write;
 
 ghost use Rattle.std.specs.Prelude.{◌≡◌, [], ◌≤◌, length};
@@ -16,7 +18,7 @@ use bounds::Asked;
 const LONGEST: usize = 5_799;
 
 // What rendering answers: the text is written, or document 01's question is answered no.
-#[derive(Drop)]
+#[derive(Clone, Copy)]
 pub enum Rendering {
     Written,
     // 1: the upper list is not 1 to 256 long.
@@ -28,7 +30,7 @@ pub enum Rendering {
 }
 
 // The text is the first `length` bytes; the others, and on a refusal all, are 0.
-#[derive(Drop)]
+#[derive(Clone, Copy)]
 pub struct Rendered {
     pub answer: Rendering,
     pub length: usize,

@@ -2,8 +2,8 @@
 
 ghost use Rattle.std.specs.Prelude.{◌+◌, ◌≤◌, ◌<◌, [], ◌∷◌, length};
 ghost use Rattle.laws.specs.Writing.{Wrote};
-ghost use Rattle.csv.specs.Numbers.{decimal};
-ghost use Rattle.csv.specs.Records.{most_if};
+ghost use Rattle.csv_text.specs.Numbers.{decimal};
+ghost use Rattle.csv_text.specs.Records.{most_if};
 ghost use Rattle.rendering.specs.Rendering.{most_field, line, refusal_line};
 ghost use Rattle.rendering.specs.Steps.{line_length};
 

@@ -5,7 +5,7 @@ use Rattle.curves.specs.Pairs.{Pair, pair_of}
 use Rattle.curves.specs.Unlimited.{AnyPair, with_mark}
 use Rattle.bounds.specs.Bounds.{max_horizon}
 use Rattle.closure.specs.Closing.{closing}
-use Rattle.csv.specs.Text.{Bytes}
+use Rattle.csv_text.specs.Text.{Bytes}
 use Rattle.rendering.specs.declared.Rendered.{Rendered}
 use Rattle.rendering.specs.Rendering.{refusal_line, text_of, written, rendering}
 use Rattle.rendering.specs.Answers.{rendering_answer, rendering_number}

@@ -14,8 +14,8 @@ use Rattle.closure.specs.Closing.{closing_limit, refused_closing, closing}
 use Rattle.closure.specs.Theorems.{PassesFour, GivesClosure, closure_of}
 use Rattle.closure.proofs.Given.{refused_iff_no_stream, else_closed}
 use Rattle.closure.proofs.Promised.{closure_passes}
-use Rattle.csv.specs.Text.{Bytes, crlf, header}
-use Rattle.csv.specs.Records.{Constraint, constraint_of, message_limit}
+use Rattle.csv_text.specs.Text.{Bytes, crlf, header}
+use Rattle.csv_text.specs.Records.{Constraint, constraint_of, message_limit}
 use Rattle.constraints.specs.Constraints.{Satisfies}
 use Rattle.constraints.proofs.Named.{in_range, largest_bound}
 use Rattle.constraints.specs.Reading.{later, constraints, record_questions, question11, reading_questions, reading}

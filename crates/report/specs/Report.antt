@@ -4,7 +4,7 @@ use Rattle.curves.specs.Pairs.{Pair, pair_of}
 use Rattle.curves.specs.Unlimited.{AnyPair, with_mark}
 use Rattle.bounds.specs.Bounds.{max_horizon}
 use Rattle.closure.specs.Closing.{ClosingAnswer, closing}
-use Rattle.csv.specs.Text.{Bytes}
+use Rattle.csv_text.specs.Text.{Bytes}
 use Rattle.constraints.specs.Reading.{ReadingAnswer, reading}
 use Rattle.rendering.specs.Rendering.{padded_text, refusal_line, RenderingAnswer, rendering}
 use Rattle.report.specs.declared.Output.{Output}

@@ -5,7 +5,7 @@ use Rattle.curves.specs.Streams.{Stream}
 use Rattle.curves.specs.Unlimited.{AnyPair}
 use Rattle.curves.specs.Questions.{FirstNo}
 use Rattle.closure.specs.Theorems.{GivesClosure, closure_of}
-use Rattle.csv.specs.Text.{Bytes}
+use Rattle.csv_text.specs.Text.{Bytes}
 use Rattle.constraints.specs.Constraints.{Satisfies}
 use Rattle.constraints.specs.Reading.{constraints, reading_questions}
 use Rattle.constraints.specs.Theorems.{GivesPair, given_pair}

@@ -1,5 +1,7 @@
 // The figures program as a function: constraint text in, the whole output back.
 
+#![tactic(auto)]
+
 ghost use Rattle.std.specs.Prelude.{◌≡◌, ◌≤◌, length, replicate};
 ghost use Rattle.curves.specs.Pairs.{pair_of};
 ghost use Rattle.curves.specs.Unlimited.{with_mark};
@@ -21,7 +23,7 @@ const MAX_HORIZON: usize = 256;
 const LONGEST: usize = 5_799;
 
 // The output is the first `length` bytes; the others are 0.
-#[derive(Drop)]
+#[derive(Clone, Copy)]
 pub struct Output {
     pub length: usize,
     pub bytes: [u8; LONGEST],

@@ -1,6 +1,8 @@
 // Lists of ticks on a monitor and on a generator that are lists of 32-bit words: opening one, running a list of counts or of choices, and
 // looking at the admissible range. Answers are numbers, so that all of it can cross the boundary to C.
 
+#![tactic(auto)]
+
 mod generating;
 mod judging;
 mod passing;

@@ -17,7 +17,7 @@ const COUNT_LIMIT: u32 = 16_776_960;
 const NO_CEILING: u32 = 1_073_741_824;
 
 // The smallest and the largest count that the next tick can have, both raised. There is none where `hi` is below `lo`.
-#[derive(Drop)]
+#[derive(Clone, Copy)]
 struct Limits {
     lo: u32,
     hi: u32,

@@ -1,5 +1,8 @@
 // Runs a set of texts through the function behind the figures program. Standard input has them: each stands below a line that says what it
 // shows and is ended by a bar, which no text has. Each output is written below the same line.
+
+#![tactic(auto)]
+
 use libc::{STDIN_FILENO, STDOUT_FILENO};
 
 fn main() {

@@ -1,6 +1,6 @@
 -- `closure::close` meets its promise: each refusal where its question is the first that is answered no, and else what the rounds end with.
 -- Assumes nothing.
-use Rattle.laws.proofs.Base.{ℕ, ◌≤◌, ◌≡◌, sym, ◌∙◌, List, arith, needs, length, take, length-take-le}
+use Rattle.laws.proofs.Base.{ℕ, ◌≤◌, ◌≡◌, sym, ◌∙◌, List, arith, rules, length, take, length-take-le}
 use Rattle.laws.specs.Tests.{Tells}
 use Rattle.laws.proofs.Tests.{told_yes, told_no}
 use Rattle.curves.specs.Pairs.{Pair, pair_of}
@@ -120,23 +120,23 @@ close_spec =
     returns-3
     returns-4
     returns-5
-    (λ c κs. search needs)
-    (λ c κs. search needs)
+    (λ c κs. search rules)
+    (λ c κs. search rules)
     returns-6
-    (λ c. search needs)
+    (λ c. search rules)
     (λ c. part c.before.before _ (room (asked c.before.before)).1)
     (λ c κs.
     let s = start (asked c.before.before) in
     leasts_fit_with (us s) (ls s) (found s) _ c.before.if7.true (passes c.before.before))
-    (λ c. search needs)
+    (λ c. search rules)
     returns-7
-    (λ c. search needs)
+    (λ c. search rules)
     (λ c. part c.before.before _ (room (asked c.before.before)).0)
-    (λ c. search needs)
+    (λ c. search rules)
     (λ c. part c.before.before.before _ (room (asked c.before.before.before)).1)
     (λ c κs.
     let s = start (asked c.before.before.before) in
     fit_with (us s) (ls s) (found s) _ c.before.before.if7.false (passes c.before.before.before))
-    (λ c. search needs)
-    (λ c. search needs)
+    (λ c. search rules)
+    (λ c. search rules)
     returns-8)

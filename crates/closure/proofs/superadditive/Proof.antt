@@ -1,6 +1,6 @@
 -- `closure::superadditive` meets its promise: before a turn it is known of the windows before i.
 -- Assumes nothing.
-use Rattle.laws.proofs.Base.{ℕ, ◌-◌, ◌≤◌, ◌<◌, arith, needs, below_none, length}
+use Rattle.laws.proofs.Base.{ℕ, ◌-◌, ◌≤◌, ◌<◌, arith, rules, below_none, length}
 use Rattle.laws.specs.Tests.{Tells}
 use Rattle.laws.proofs.Tests.{all_turn}
 use Rattle.closure.specs.Steps.{ReachesParts}
@@ -32,8 +32,8 @@ superadditive-spec =
     invariant-loop
     decreases-loop
     (λ c. (omega arith, below_none _))
-    (λ c κs. search needs)
-    (λ c. search needs)
-    (λ c. search needs)
+    (λ c κs. search rules)
+    (λ c. search rules)
+    (λ c. search rules)
     loop-again
     returns)

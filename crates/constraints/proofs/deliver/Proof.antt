@@ -1,6 +1,6 @@
 -- `constraints::deliver` meets its contract: the leasts go to the one list, and the ceilings to the other, where there are any.
 -- Assumes nothing.
-use Rattle.laws.proofs.Base.{refl, arith, needs}
+use Rattle.laws.proofs.Base.{refl, arith, rules}
 use Rattle.constraints.specs.Steps.{Table, table_of, is_unlimited}
 use Rattle.constraints.proofs.Tables.{filled_both, filled_leasts}
 use Rattle.constraints.proofs.deliver.Statement.{statement}
@@ -39,13 +39,13 @@ pub deliver-spec : {M : Type 1} → statement M
 deliver-spec =
     tie.close
     (tie.spec
-    (λ c. search needs)
-    (λ c. search needs)
-    (λ c. search needs)
-    (λ c κs. search needs)
-    (λ c κs. search needs)
-    (λ c. search needs)
-    (λ c. search needs)
+    (λ c. search rules)
+    (λ c. search rules)
+    (λ c. search rules)
+    (λ c κs. search rules)
+    (λ c κs. search rules)
+    (λ c. search rules)
+    (λ c. search rules)
     returns-4
-    (λ c. search needs)
+    (λ c. search rules)
     returns-5)

@@ -1,6 +1,6 @@
 -- `constraints::is_header` meets its contract: before a turn the bytes before i are the header's.
 -- Assumes nothing.
-use Rattle.laws.proofs.Base.{ℕ, ◌-◌, ◌≤◌, ◌<◌, ◌≡◌, ap, arith, needs, below_none, below_more, length, get_or, ext_get_or}
+use Rattle.laws.proofs.Base.{ℕ, ◌-◌, ◌≤◌, ◌<◌, ◌≡◌, ap, arith, rules, below_none, below_more, length, get_or, ext_get_or}
 use Rattle.constraints.proofs.is_header.Statement.{statement}
 use Rattle.constraints.proofs.is_header.Tie as tie
 
@@ -14,13 +14,13 @@ returns : tie.Need-returns invariant-loop decreases-loop
 returns c = λ e. omega (arith, ap length e, c.if1.true)
 
 loop-holds : tie.Need-loop-init invariant-loop decreases-loop
-loop-holds c = (search needs, below_none _)
+loop-holds c = (search rules, below_none _)
 
 returns-2 : tie.Need-returns-2 invariant-loop decreases-loop
 returns-2 c = λ e. c.if2.true (ap (λ l. get_or l c.before.before.before.before.loop.i 0) e)
 
 loop-again : tie.Need-loop-preserved invariant-loop decreases-loop
-loop-again c = (search needs, below_more _ _ c.before.before.before.before.loop.invariant.1 c.if2.false)
+loop-again c = (search rules, below_more _ _ c.before.before.before.before.loop.invariant.1 c.if2.false)
 
 returns-3 : tie.Need-returns-3 invariant-loop decreases-loop
 returns-3 c =
@@ -34,10 +34,10 @@ is-header-spec =
     decreases-loop
     returns
     loop-holds
-    (λ c. search needs)
-    (λ c. search needs)
+    (λ c. search rules)
+    (λ c. search rules)
     returns-2
-    (λ c. search needs)
-    (λ c. search needs)
+    (λ c. search rules)
+    (λ c. search rules)
     loop-again
     returns-3)

@@ -1,8 +1,8 @@
 -- `constraints::read` meets its promise: each refusal where its question is the first that is answered no, and else the text's pair.
 -- Assumes nothing.
-use Rattle.laws.proofs.Base.{◌≡◌, sym, ◌∙◌, [], arith, needs}
+use Rattle.laws.proofs.Base.{◌≡◌, sym, ◌∙◌, [], arith, rules}
 use Rattle.laws.proofs.Tests.{told_yes, told_no}
-use Rattle.csv.specs.Text.{Bytes, header}
+use Rattle.csv_text.specs.Text.{Bytes, header}
 use Rattle.constraints.specs.Reading.{later, question6}
 use Rattle.constraints.specs.Steps.{no_most, Table, table_of, TableHolds, ScannedAs}
 use Rattle.constraints.specs.declared.Fault.{Fault}
@@ -82,23 +82,23 @@ read_spec =
     tie.close
     (tie.spec
     returns
-    (λ c κs. search needs)
-    (λ c κs. search needs)
+    (λ c κs. search rules)
+    (λ c κs. search rules)
     returns-2
-    (λ c κs. search needs)
-    (λ c κs. search needs)
-    (λ c. search needs)
-    (λ c. search needs)
+    (λ c κs. search rules)
+    (λ c κs. search rules)
+    (λ c. search rules)
+    (λ c. search rules)
     read-records-requires
-    (λ c. search needs)
-    (λ c. search needs)
-    (λ c. search needs)
+    (λ c. search rules)
+    (λ c. search rules)
+    (λ c. search rules)
     deliver-requires
-    (λ c. search needs)
-    (λ c. search needs)
-    (λ c. search needs)
-    (λ c. search needs)
-    (λ c. search needs)
+    (λ c. search rules)
+    (λ c. search rules)
+    (λ c. search rules)
+    (λ c. search rules)
+    (λ c. search rules)
     returns-3
     returns-4
     returns-5

@@ -1,9 +1,9 @@
 -- `constraints::read_records` meets its contract: before a turn the records that end before `at` are sound and in the table.
 -- Assumes nothing.
-use Rattle.laws.proofs.Base.{ℕ, ◌-◌, ◌<◌, ◌≡◌, sym, ap, ◌∙◌, arith, needs, length, drop}
+use Rattle.laws.proofs.Base.{ℕ, ◌-◌, ◌<◌, ◌≡◌, sym, ap, ◌∙◌, arith, rules, length, drop}
 use Rattle.curves.specs.Questions.{result}
-use Rattle.csv.specs.Text.{Bytes, records}
-use Rattle.csv.specs.Records.{most_if, constraint, InRange}
+use Rattle.csv_text.specs.Text.{Bytes, records}
+use Rattle.csv_text.specs.Records.{most_if, constraint, InRange}
 use Rattle.records.specs.Recording.{spelt, recording}
 use Rattle.records.specs.Answers.{record_reply}
 use Rattle.constraints.specs.Steps.{table_of}
@@ -23,7 +23,7 @@ abbrev decreases-loop : tie.decreases-loop
 decreases-loop text leasts₀ mosts₀ horizon₀ smallest₀ at₀ leasts mosts horizon smallest at = length text - at
 
 loop-holds : tie.Need-loop-init invariant-loop decreases-loop
-loop-holds c = (search needs, search needs, reached_none _ _ c.before.before.before.requires.1)
+loop-holds c = (search rules, search rules, reached_none _ _ c.before.before.before.requires.1)
 
 -- The text, and the constraint that the record of a turn was found to be.
 abbrev text : tie.At-loop invariant-loop decreases-loop → Bytes
@@ -79,8 +79,8 @@ loop-again c =
     let k = c.before.before.before.before.before in
     let h = head k in
     let (w, (l, (g, (m, (n, _))))) = k.before.window.given.0 in (
-      search needs,
-      search needs,
+      search rules,
+      search rules,
       rw (c.smaller.ensures, c.before.larger.ensures, c.before.before.most-or-none.ensures)
           (onward_at (text h) _ _ h.loop.at (omega arith) h.loop.inv.2 w l g m n (found k) c.before.before.before.if1.false),
     )
@@ -110,21 +110,21 @@ read-records-spec =
     invariant-loop
     decreases-loop
     loop-holds
-    (λ c. search needs)
-    (λ c. search needs)
-    (λ c. search needs)
-    (λ c κs. search needs)
-    (λ c. search needs)
+    (λ c. search rules)
+    (λ c. search rules)
+    (λ c. search rules)
+    (λ c κs. search rules)
+    (λ c. search rules)
     sub-if1
     (λ c. omega (arith, (ranged c).window))
     (λ c. (within c.before).1)
-    (λ c κs. search needs)
-    (λ c. search needs)
-    (λ c. search needs)
+    (λ c κs. search rules)
+    (λ c. search rules)
+    (λ c. search rules)
     returns
-    (λ c κs. search needs)
-    (λ c κs. search needs)
-    (λ c κs. search needs)
+    (λ c κs. search rules)
+    (λ c κs. search rules)
+    (λ c κs. search rules)
     (λ c. sub-if1 c.before.before.before.before.before)
     (λ c. omega (arith, (ranged c.before.before.before.before.before).window))
     (λ c. (within c.before.before.before.before.before).0)
@@ -133,18 +133,18 @@ read-records-spec =
     (λ c. (within c.before.before.before.before.before).1)
     add_at
     add-at-2
-    (λ c. search needs)
+    (λ c. search rules)
     loop-again
-    (λ c. search needs)
-    (λ c κs. search needs)
-    (λ c. search needs)
-    (λ c. search needs)
+    (λ c. search rules)
+    (λ c κs. search rules)
+    (λ c. search rules)
+    (λ c. search rules)
     returns-2
-    (λ c. search needs)
-    (λ c κs. search needs)
-    (λ c. search needs)
-    (λ c. search needs)
+    (λ c. search rules)
+    (λ c κs. search rules)
+    (λ c. search rules)
+    (λ c. search rules)
     returns-3
-    (λ c. search needs)
-    (λ c. search needs)
+    (λ c. search rules)
+    (λ c. search rules)
     returns-4)

@@ -1,6 +1,6 @@
 -- `exports::calgedze_read` meets its promise: reading's own, with its answer as one number.
 -- Assumes nothing.
-use Rattle.laws.proofs.Base.{ap, needs}
+use Rattle.laws.proofs.Base.{ap, rules}
 use Rattle.constraints.proofs.Streams.{read_within}
 use Rattle.exports.proofs.Coded.{read_is}
 use Rattle.exports.proofs.calgedze_read.Statement.{statement}
@@ -19,8 +19,8 @@ pub calgedze-read-spec : {M : Type 1} → statement M
 calgedze-read-spec =
     tie.close
     (tie.spec
-    (λ c κs. search needs)
+    (λ c κs. search rules)
     reading-answer-requires
-    (λ c. search needs)
-    (λ c. search needs)
+    (λ c. search rules)
+    (λ c. search rules)
     returns)

@@ -1,5 +1,5 @@
 -- `exports::calgedze_render` meets its promise: the text is copied as far as there is room. Assumes nothing.
-use Rattle.laws.proofs.Base.{sym, length-take-le, needs}
+use Rattle.laws.proofs.Base.{sym, length-take-le, rules}
 use Rattle.exports.proofs.Copied.{rendered_within, rendered_into_lem}
 use Rattle.exports.proofs.calgedze_render.Statement.{statement}
 use Rattle.exports.proofs.calgedze_render.Tie as tie
@@ -23,10 +23,10 @@ pub calgedze-render-spec : {M : Type 1} → statement M
 calgedze-render-spec =
     tie.close
     (tie.spec
-    (λ c κs. search needs)
+    (λ c κs. search rules)
     array-share-prefix-bytes
     slice-aggregate-copy-bytes
-    (λ c κs. search needs)
-    (λ c κs. search needs)
-    (λ c. search needs)
+    (λ c κs. search rules)
+    (λ c κs. search rules)
+    (λ c. search rules)
     returns)

@@ -1,6 +1,6 @@
 -- `exports::copy_bytes` meets its contract: before a turn the first i bytes are copied.
 -- Assumes nothing.
-use Rattle.laws.proofs.Base.{◌-◌, ◌≤◌, ◌≡◌, refl, ◌++◌, arith, needs, length, take, drop}
+use Rattle.laws.proofs.Base.{◌-◌, ◌≤◌, ◌≡◌, refl, ◌++◌, arith, rules, length, take, drop}
 use Rattle.laws.proofs.Copying.{copied_more, copied_room, copied_all}
 use Rattle.exports.proofs.copy_bytes.Statement.{statement}
 use Rattle.exports.proofs.copy_bytes.Tie as tie
@@ -21,7 +21,7 @@ loop-again c =
     let turn = c.before.before.before.loop.invariant in (
       omega (arith, c.before.before.loop-test.true),
       omega (arith, c.before.if1.false, turn.2),
-      search needs,
+      search rules,
       copied_more _ _ _ _ turn.3 c.before.before.loop-test.true (omega (arith, c.before.if1.false, turn.2)),
     )
 
@@ -37,12 +37,12 @@ copy-bytes-spec =
     invariant-loop
     decreases-loop
     (λ c. (omega arith, omega arith, refl, refl))
-    (λ c. search needs)
+    (λ c. search rules)
     returns
-    (λ c. search needs)
-    (λ c. search needs)
-    (λ c. search needs)
-    (λ c. search needs)
+    (λ c. search rules)
+    (λ c. search rules)
+    (λ c. search rules)
+    (λ c. search rules)
     loop-again
-    (λ c. search needs)
+    (λ c. search rules)
     returns-2)

@@ -1,6 +1,6 @@
 -- `exports::reading_answer` meets its contract: the horizon and the bit of the mark make one number.
 -- Assumes nothing.
-use Rattle.laws.proofs.Base.{arith, needs}
+use Rattle.laws.proofs.Base.{arith, rules}
 use Rattle.exports.proofs.Coded.{read_small, read_code}
 use Rattle.exports.proofs.reading_answer.Statement.{statement}
 use Rattle.exports.proofs.reading_answer.Tie as tie
@@ -18,25 +18,25 @@ pub reading-answer-spec : {M : Type 1} → statement M
 reading-answer-spec =
     tie.close
     (tie.spec
-    (λ c. search needs)
-    (λ c κs. search needs)
+    (λ c. search rules)
+    (λ c κs. search rules)
     add-result
-    (λ c. search needs)
-    (λ c. search needs)
-    (λ c. search needs)
-    (λ c. search needs)
-    (λ c. search needs)
-    (λ c. search needs)
-    (λ c. search needs)
-    (λ c. search needs)
-    (λ c. search needs)
-    (λ c. search needs)
-    (λ c. search needs)
-    (λ c. search needs)
+    (λ c. search rules)
+    (λ c. search rules)
+    (λ c. search rules)
+    (λ c. search rules)
+    (λ c. search rules)
+    (λ c. search rules)
+    (λ c. search rules)
+    (λ c. search rules)
+    (λ c. search rules)
+    (λ c. search rules)
+    (λ c. search rules)
+    (λ c. search rules)
     returns
-    (λ c. search needs)
-    (λ c. search needs)
-    (λ c. search needs)
-    (λ c. search needs)
-    (λ c. search needs)
-    (λ c. search needs))
+    (λ c. search rules)
+    (λ c. search rules)
+    (λ c. search rules)
+    (λ c. search rules)
+    (λ c. search rules)
+    (λ c. search rules))

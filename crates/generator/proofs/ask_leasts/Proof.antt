@@ -1,6 +1,6 @@
 -- `generator::ask_leasts` meets its contract: the questions on the lists decide, and then the sums of leasts of two parts.
 -- Assumes nothing.
-use Rattle.laws.proofs.Base.{ℕ, List, needs}
+use Rattle.laws.proofs.Base.{ℕ, List, rules}
 use Rattle.laws.proofs.Tests.{either_true, either_false}
 use Rattle.generator.proofs.Opening.{leasts_closed, leasts_not_closed, leasts_first, leasts_second, leasts_fourth}
 use Rattle.generator.proofs.ask_leasts.Statement.{statement}
@@ -43,12 +43,12 @@ pub ask-leasts-spec : {M : Type 1} → statement M
 ask-leasts-spec =
     tie.close
     (tie.spec
-    (λ c κs. search needs)
-    (λ c. search needs)
-    (λ c κs. search needs)
-    (λ c. search needs)
-    (λ c. search needs)
-    (λ c. search needs)
+    (λ c κs. search rules)
+    (λ c. search rules)
+    (λ c κs. search rules)
+    (λ c. search rules)
+    (λ c. search rules)
+    (λ c. search rules)
     returns
     returns-2
     returns-3

@@ -1,6 +1,6 @@
 -- `generator::ask_opening` meets its contract: closing with room for every closure asks 1, 2, 4 and 5, and tells by its rounds about 15.
 -- Assumes nothing.
-use Rattle.laws.proofs.Base.{needs}
+use Rattle.laws.proofs.Base.{rules}
 use Rattle.curves.specs.Pairs.{Pair, pair_of}
 use Rattle.closure.proofs.Room.{in_zeros}
 use Rattle.generator.proofs.Opening.{answers}
@@ -23,12 +23,12 @@ pub ask-opening-spec : {M : Type 1} → statement M
 ask-opening-spec =
     tie.close
     (tie.spec
-    (λ c κs. search needs)
+    (λ c κs. search rules)
     returns
-    (λ c κs. search needs)
-    (λ c κs. search needs)
-    (λ c. search needs)
-    (λ c. search needs)
-    (λ c κs. search needs)
-    (λ c κs. search needs)
+    (λ c κs. search rules)
+    (λ c κs. search rules)
+    (λ c. search rules)
+    (λ c. search rules)
+    (λ c κs. search rules)
+    (λ c κs. search rules)
     returns-2)

@@ -1,6 +1,6 @@
 -- `generator::choose` meets its contract: the count of a range is the one that the definition leads to, and it fits.
 -- Assumes nothing.
-use Rattle.laws.proofs.Base.{ℕ, ◌≡◌, ap, subst, subst⁻¹, arith, needs}
+use Rattle.laws.proofs.Base.{ℕ, ◌≡◌, ap, subst, subst⁻¹, arith, rules}
 use Rattle.curves.specs.Questions.{Reply, result}
 use Rattle.generator.specs.declared.Admissible.{Admissible}
 use Rattle.generator.specs.declared.Admissible.TheVariants.{Range}
@@ -32,13 +32,13 @@ pub choose_spec : {M : Type 1} → statement M
 choose_spec =
     tie.close
     (tie.spec
-    (λ c. search needs)
+    (λ c. search rules)
     (λ c. (known c).0)
     (λ c. omega (arith, (known c).0, (known c).1))
-    (λ c. search needs)
+    (λ c. search rules)
     (λ c. omega (arith, (known c).1, chosen_below _ _ (start c).args.choice (known c).0))
-    (λ c. search needs)
-    (λ c. search needs)
+    (λ c. search rules)
+    (λ c. search rules)
     returns
-    (λ c. search needs)
-    (λ c. search needs))
+    (λ c. search rules)
+    (λ c. search rules))

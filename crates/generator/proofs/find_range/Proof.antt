@@ -1,6 +1,6 @@
 -- `generator::find_range` meets its contract: question 12 and then the limits of the next count settle what is shown.
 -- Assumes nothing.
-use Rattle.laws.proofs.Base.{sym, subst⁻¹, needs}
+use Rattle.laws.proofs.Base.{sym, subst⁻¹, rules}
 use Rattle.history.specs.declared.History.{History}
 use Rattle.history.specs.States.{View, history_of, view_of, Legal}
 use Rattle.history.proofs.Said.{legal_from, illegal_from}
@@ -61,9 +61,9 @@ pub find-range-spec : {M : Type 1} → statement M
 find-range-spec =
     tie.close
     (tie.spec
-    (λ c κs. search needs)
-    (λ c. search needs)
-    (λ c. search needs)
+    (λ c κs. search rules)
+    (λ c. search rules)
+    (λ c. search rules)
     returns
     (λ c. let e = c.before in upper-length _ (arrays e) (sizes (told e)))
     (λ c. let e = c.before.before in lower-length _ (arrays e) (sizes (told e)))

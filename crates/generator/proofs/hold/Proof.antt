@@ -1,6 +1,6 @@
 -- `generator::hold` meets its contract: the count goes into one place fewer than the horizon, or nothing changes.
 -- Assumes nothing.
-use Rattle.laws.proofs.Base.{◌≤◌, sym, subst, arith, needs, length, length-take-le}
+use Rattle.laws.proofs.Base.{◌≤◌, sym, subst, arith, rules, length, length-take-le}
 use Rattle.generator.specs.Steps.{HoldsWhere}
 use Rattle.generator.proofs.Ranging.{held_more, held_as_found}
 use Rattle.generator.proofs.hold.Statement.{statement}
@@ -25,11 +25,11 @@ pub hold-spec : {M : Type 1} → statement M
 hold-spec =
     tie.close
     (tie.spec
-    (λ c. search needs)
+    (λ c. search rules)
     returns
     (λ c. omega (arith, places c))
     (λ c. omega (arith, places c))
     (λ c. sym (length-take-le _ _ (omega (arith, places c.before))))
-    (λ c κs. search needs)
-    (λ c. search needs)
+    (λ c κs. search rules)
+    (λ c. search rules)
     returns-2)

@@ -1,6 +1,6 @@
 -- `generator::lowered` meets its contract: without ceilings the largest count stays, and else the ceiling may lower it.
 -- Assumes nothing.
-use Rattle.laws.proofs.Base.{refl, needs}
+use Rattle.laws.proofs.Base.{refl, rules}
 use Rattle.generator.proofs.lowered.Statement.{statement}
 use Rattle.generator.proofs.lowered.Tie as tie
 
@@ -9,6 +9,6 @@ lowered-spec =
     tie.close
     (tie.spec
     (λ c. rw c.if1.true refl)
-    (λ c. search needs)
-    (λ c κs. search needs)
+    (λ c. search rules)
+    (λ c κs. search rules)
     (λ c. rw c.before.if1.false c.smaller.ensures))

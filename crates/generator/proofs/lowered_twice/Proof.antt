@@ -1,6 +1,6 @@
 -- `generator::lowered_twice` meets its contract: without ceilings the largest count stays, and else either ceiling may lower it.
 -- Assumes nothing.
-use Rattle.laws.proofs.Base.{refl, arith, needs}
+use Rattle.laws.proofs.Base.{refl, arith, rules}
 use Rattle.generator.proofs.lowered_twice.Statement.{statement}
 use Rattle.generator.proofs.lowered_twice.Tie as tie
 
@@ -9,8 +9,8 @@ lowered-twice-spec =
     tie.close
     (tie.spec
     (λ c. rw c.if1.true refl)
-    (λ c. search needs)
-    (λ c κs. search needs)
-    (λ c. search needs)
-    (λ c κs. search needs)
+    (λ c. search rules)
+    (λ c κs. search rules)
+    (λ c. search rules)
+    (λ c κs. search rules)
     (λ c. rw c.before.before.if1.false (omega (arith, c.before.smaller.ensures, c.smaller2.ensures))))

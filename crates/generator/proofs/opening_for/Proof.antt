@@ -1,6 +1,6 @@
 -- `generator::opening_for` meets its contract: no round was taken, or some were; in the last arm closing was refused with 5, or with 3.
 -- Assumes nothing.
-use Rattle.laws.proofs.Base.{◌≡◌, refl, subst⁻¹, needs}
+use Rattle.laws.proofs.Base.{◌≡◌, refl, subst⁻¹, rules}
 use Rattle.closure.specs.declared.Closing.{Closing}
 use Rattle.closure.proofs.Room.{others}
 use Rattle.generator.specs.declared.GeneratorOpening.TheVariants.{NotClosed}
@@ -20,13 +20,13 @@ pub opening-for-spec : {M : Type 1} → statement M
 opening-for-spec =
     tie.close
     (tie.spec
-    (λ c. search needs)
-    (λ c. search needs)
-    (λ c. search needs)
-    (λ c. search needs)
-    (λ c. search needs)
+    (λ c. search rules)
+    (λ c. search rules)
+    (λ c. search rules)
+    (λ c. search rules)
+    (λ c. search rules)
     returns-2
-    (λ c. search needs)
-    (λ c. search needs)
-    (λ c. search needs)
+    (λ c. search rules)
+    (λ c. search rules)
+    (λ c. search rules)
     (λ c. others For refl refl c.before.args.closing c.match.keys5))

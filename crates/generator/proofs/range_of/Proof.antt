@@ -1,6 +1,6 @@
 -- `generator::range_of` meets its contract: where there is a count, both ends are within the limit of figures.
 -- Assumes nothing.
-use Rattle.laws.proofs.Base.{suc, ◌≤◌, arith, needs}
+use Rattle.laws.proofs.Base.{suc, ◌≤◌, arith, rules}
 use Rattle.bounds.specs.Bounds.{figure_limit}
 use Rattle.generator.proofs.range_of.Statement.{statement}
 use Rattle.generator.proofs.range_of.Tie as tie
@@ -13,8 +13,8 @@ pub range-of-spec : {M : Type 1} → statement M
 range-of-spec =
     tie.close
     (tie.spec
-    (λ c. search needs)
-    (λ c. search needs)
+    (λ c. search rules)
+    (λ c. search rules)
     (λ c. omega (arith, small c))
     (λ c. omega (arith, small c))
-    (λ c. search needs))
+    (λ c. search rules))

@@ -1,6 +1,6 @@
 -- `history::ask_legality` meets its promise: each way out answers question 12 by the sizes or by the figures.
 -- Assumes nothing.
-use Rattle.laws.proofs.Base.{ℕ, ◌≤◌, ◌≡◌, sym, List, arith, needs, length, length-take-le}
+use Rattle.laws.proofs.Base.{ℕ, ◌≤◌, ◌≡◌, sym, List, arith, rules, length, length-take-le}
 use Rattle.laws.proofs.Tests.{told_yes, told_no}
 use Rattle.bounds.specs.Bounds.{max_horizon}
 use Rattle.history.specs.declared.History.{History}
@@ -67,6 +67,6 @@ ask-legality-spec =
     returns-2
     (λ c. sym (length-take-le _ _ (uppers c.before)))
     (λ c. sym (length-take-le _ _ (lowers c.before.before)))
-    (λ c κs. search needs)
+    (λ c κs. search rules)
     returns-3
     returns-4)

@@ -1,6 +1,6 @@
 -- `history::ask_opening` meets its contract: the answer is that of what was found.
 -- Assumes nothing.
-use Rattle.laws.proofs.Base.{ap, ◌∙◌, needs}
+use Rattle.laws.proofs.Base.{ap, ◌∙◌, rules}
 use Rattle.history.specs.Answers.{opening_reply}
 use Rattle.history.proofs.Histories.{answers}
 use Rattle.history.proofs.ask_opening.Statement.{statement}
@@ -11,4 +11,4 @@ returns c =
     let found = c.before.ask in ap opening_reply c.opening-for.ensures ∙ answers _ found.result found.ensures
 
 pub ask-opening-spec : {M : Type 1} → statement M
-ask-opening-spec = tie.close (tie.spec (λ c κs. search needs) (λ c κs. search needs) returns)
+ask-opening-spec = tie.close (tie.spec (λ c κs. search rules) (λ c κs. search rules) returns)

@@ -1,6 +1,6 @@
 -- `lists::copy` meets its promise: before a turn the first i figures are copied, and it is known whether they stood there.
 -- Assumes nothing.
-use Rattle.laws.proofs.Base.{◌-◌, ◌≤◌, ◌≡◌, refl, ◌++◌, arith, needs, length, take, drop}
+use Rattle.laws.proofs.Base.{◌-◌, ◌≤◌, ◌≡◌, refl, ◌++◌, arith, rules, length, take, drop}
 use Rattle.laws.specs.Tests.{Tells}
 use Rattle.laws.proofs.Copying.{copied_more, copied_room, copied_all, same_turn}
 use Rattle.lists.proofs.copy.Statement.{statement}
@@ -27,7 +27,7 @@ loop-again c =
     let left = c.before.before.before.if1.false in (
       omega (arith, inside),
       omega (arith, left, head.invariant.2),
-      search needs,
+      search rules,
       copied_more from _ _ head.i head.invariant.3 inside (omega (arith, left, head.invariant.2)),
       same_turn from _ _ head.i head.invariant.3 head.same inside (omega (arith, left, head.invariant.2))
           head.invariant.4,
@@ -48,18 +48,18 @@ copy_spec =
     invariant-loop
     decreases-loop
     (λ c. (omega arith, omega arith, refl, refl, refl))
-    (λ c. search needs)
+    (λ c. search rules)
     returns
-    (λ c. search needs)
-    (λ c. search needs)
-    (λ c. search needs)
-    (λ c. search needs)
-    (λ c. search needs)
-    (λ c. search needs)
-    (λ c. search needs)
-    (λ c. search needs)
-    (λ c. search needs)
-    (λ c. search needs)
+    (λ c. search rules)
+    (λ c. search rules)
+    (λ c. search rules)
+    (λ c. search rules)
+    (λ c. search rules)
+    (λ c. search rules)
+    (λ c. search rules)
+    (λ c. search rules)
+    (λ c. search rules)
+    (λ c. search rules)
     loop-again
-    (λ c. search needs)
+    (λ c. search rules)
     returns-2)

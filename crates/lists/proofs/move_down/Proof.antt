@@ -1,6 +1,6 @@
 -- `lists::move_down` meets its contract: before a turn the entries before i are those of so many places further on.
 -- Assumes nothing.
-use Rattle.laws.proofs.Base.{◌-◌, ◌≤◌, ◌≡◌, refl, ◌++◌, ◌∙◌, ap, arith, needs, length, take, drop}
+use Rattle.laws.proofs.Base.{◌-◌, ◌≤◌, ◌≡◌, refl, ◌++◌, ◌∙◌, ap, arith, rules, length, take, drop}
 use Rattle.lists.proofs.Pushing.{moved_turn}
 use Rattle.lists.proofs.move_down.Statement.{statement}
 use Rattle.lists.proofs.move_down.Tie as tie
@@ -15,7 +15,7 @@ loop-again : tie.Need-loop-preserved invariant-loop decreases-loop
 loop-again c =
     let head = c.before.before.loop in (
       omega (arith, c.before.loop-test.true),
-      search needs,
+      search rules,
       moved_turn _ head.list _ head.i
           (omega (arith, c.before.loop-test.true)) head.invariant.2,
     )
@@ -34,13 +34,13 @@ move_down_spec =
     invariant-loop
     decreases-loop
     (λ c. (omega arith, refl, refl))
-    (λ c. search needs)
-    (λ c. search needs)
-    (λ c. search needs)
-    (λ c. search needs)
-    (λ c. search needs)
-    (λ c. search needs)
-    (λ c. search needs)
+    (λ c. search rules)
+    (λ c. search rules)
+    (λ c. search rules)
+    (λ c. search rules)
+    (λ c. search rules)
+    (λ c. search rules)
+    (λ c. search rules)
     loop-again
-    (λ c. search needs)
+    (λ c. search rules)
     returns)

@@ -1,6 +1,6 @@
 -- `lists::push` meets its promise: the count is stored behind the held entries, and where the list is full the others move down first.
 -- Assumes nothing.
-use Rattle.laws.proofs.Base.{◌-◌, ap, arith, needs, length, set}
+use Rattle.laws.proofs.Base.{◌-◌, ap, arith, rules, length, set}
 use Rattle.lists.proofs.Pushing.{pushed_room, pushed_full, pushed_none}
 use Rattle.lists.proofs.push.Statement.{statement}
 use Rattle.lists.proofs.push.Tie as tie
@@ -18,15 +18,15 @@ pub push_spec : {M : Type 1} → statement M
 push_spec =
     tie.close
     (tie.spec
-    (λ c. search needs)
-    (λ c. search needs)
-    (λ c. search needs)
-    (λ c. search needs)
+    (λ c. search rules)
+    (λ c. search rules)
+    (λ c. search rules)
+    (λ c. search rules)
     (λ c. pushed_room _ _ _ c.if1.true)
-    (λ c κs. search needs)
-    (λ c. search needs)
-    (λ c. search needs)
-    (λ c. search needs)
-    (λ c. search needs)
+    (λ c κs. search rules)
+    (λ c. search rules)
+    (λ c. search rules)
+    (λ c. search rules)
+    (λ c. search rules)
     returns-2
     (λ c. pushed_none _ _ _ c.before.if1.false c.if2.false))

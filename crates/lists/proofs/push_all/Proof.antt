@@ -1,6 +1,6 @@
 -- `lists::push_all` meets its promise: either the last counts take all places, or those before them move down and they go behind.
 -- Assumes nothing.
-use Rattle.laws.proofs.Base.{◌-◌, min, refl, ap, ◌∙◌, length, arith, needs}
+use Rattle.laws.proofs.Base.{◌-◌, min, refl, ap, ◌∙◌, length, arith, rules}
 use Rattle.lists.specs.Steps.{moved_down}
 use Rattle.lists.proofs.Pushing.{pushed_over, pushed_behind}
 use Rattle.lists.proofs.push_all.Statement.{statement}
@@ -28,23 +28,23 @@ pub push-all-spec : {M : Type 1} → statement M
 push-all-spec =
     tie.close
     (tie.spec
-    (λ c. search needs)
-    (λ c. search needs)
-    (λ c. search needs)
-    (λ c. search needs)
-    (λ c κs. search needs)
-    (λ c. search needs)
+    (λ c. search rules)
+    (λ c. search rules)
+    (λ c. search rules)
+    (λ c. search rules)
+    (λ c κs. search rules)
+    (λ c. search rules)
     returns
-    (λ c κs. search needs)
-    (λ c. search needs)
-    (λ c κs. search needs)
-    (λ c. search needs)
-    (λ c κs. search needs)
-    (λ c. search needs)
-    (λ c. search needs)
-    (λ c. search needs)
-    (λ c. search needs)
-    (λ c κs. search needs)
-    (λ c. search needs)
-    (λ c. search needs)
+    (λ c κs. search rules)
+    (λ c. search rules)
+    (λ c κs. search rules)
+    (λ c. search rules)
+    (λ c κs. search rules)
+    (λ c. search rules)
+    (λ c. search rules)
+    (λ c. search rules)
+    (λ c. search rules)
+    (λ c κs. search rules)
+    (λ c. search rules)
+    (λ c. search rules)
     returns-2)

@@ -1,6 +1,6 @@
 -- `lists::shift_down` meets its contract: before a turn the entries before i are those of one place further on.
 -- Assumes nothing.
-use Rattle.laws.proofs.Base.{◌-◌, ◌≤◌, ◌≡◌, refl, arith, needs, length, get_or}
+use Rattle.laws.proofs.Base.{◌-◌, ◌≤◌, ◌≡◌, refl, arith, rules, length, get_or}
 use Rattle.laws.proofs.Table.{Filled, unfilled}
 use Rattle.lists.proofs.Pushing.{shifted-turn, shifted_all}
 use Rattle.lists.proofs.shift_down.Statement.{statement}
@@ -15,7 +15,7 @@ decreases-loop list₀ last i₀ list i = last - i
 loop-again : tie.Need-loop-preserved invariant-loop decreases-loop
 loop-again c =
     let head = c.before.before.loop in
-    (omega arith, search needs, shifted-turn _ head.list head.i (omega arith) head.invariant.2)
+    (omega arith, search rules, shifted-turn _ head.list head.i (omega arith) head.invariant.2)
 
 returns : tie.Need-returns invariant-loop decreases-loop
 returns c =
@@ -28,15 +28,15 @@ shift-down-spec =
     (tie.spec
     invariant-loop
     decreases-loop
-    (λ c. search needs)
-    (λ c. (search needs, refl, unfilled _ _))
-    (λ c. search needs)
-    (λ c. search needs)
-    (λ c. search needs)
-    (λ c. search needs)
-    (λ c. search needs)
-    (λ c. search needs)
-    (λ c. search needs)
+    (λ c. search rules)
+    (λ c. (search rules, refl, unfilled _ _))
+    (λ c. search rules)
+    (λ c. search rules)
+    (λ c. search rules)
+    (λ c. search rules)
+    (λ c. search rules)
+    (λ c. search rules)
+    (λ c. search rules)
     loop-again
-    (λ c. search needs)
+    (λ c. search rules)
     returns)

@@ -1,6 +1,6 @@
 -- `monitor::examine_tick` meets its contract: the figures as given and then, where there are ceilings, the closed ones settle what is found.
 -- Assumes nothing.
-use Rattle.laws.proofs.Base.{◌≡◌, ap, ◌∙◌, subst, arith, needs}
+use Rattle.laws.proofs.Base.{◌≡◌, ap, ◌∙◌, subst, arith, rules}
 use Rattle.history.specs.States.{history_of}
 use Rattle.monitor.specs.declared.windows.Finding.{Finding}
 use Rattle.monitor.specs.Steps.{unjudged_as, at_first, ExaminedAfter}
@@ -53,8 +53,8 @@ pub examine-tick-spec : {M : Type 1} → statement M
 examine-tick-spec =
     tie.close
     (tie.spec
-    (λ c κs. search needs)
-    (λ c κs. search needs)
+    (λ c κs. search rules)
+    (λ c κs. search rules)
     examine-requires
     returns
     examine-requires-2

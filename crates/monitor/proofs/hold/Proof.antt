@@ -1,6 +1,6 @@
 -- `monitor::hold` meets its contract: the count goes into one place fewer than the horizon, or nothing changes.
 -- Assumes nothing.
-use Rattle.laws.proofs.Base.{◌≤◌, sym, subst, arith, needs, length, length-take-le}
+use Rattle.laws.proofs.Base.{◌≤◌, sym, subst, arith, rules, length, length-take-le}
 use borrow.Author.Tests.{not-true, not-false}
 use Rattle.monitor.specs.Steps.{HoldsWhere}
 use Rattle.monitor.proofs.Ruling.{held_more, held_as_found}
@@ -30,6 +30,6 @@ hold-spec =
     (λ c. omega (arith, places c))
     (λ c. omega (arith, places c))
     (λ c. sym (length-take-le _ _ (omega (arith, places c.before))))
-    (λ c κs. search needs)
-    (λ c. search needs)
+    (λ c κs. search rules)
+    (λ c. search rules)
     returns-2)

@@ -1,6 +1,6 @@
 -- `monitor::unjudged` meets its contract: whether the tick passes is what its verdict says.
 -- Assumes nothing.
-use Rattle.laws.proofs.Base.{ap, needs}
+use Rattle.laws.proofs.Base.{ap, rules}
 use lib.IntN.{pos}
 use Rattle.monitor.proofs.unjudged.Statement.{statement}
 use Rattle.monitor.proofs.unjudged.Tie as tie
@@ -11,4 +11,4 @@ returns c =
     ap (λ t. record { verdict = v; margin = record { value = pos 0; window = 0 }; passes = t }) c.passes.ensures
 
 pub unjudged-spec : {M : Type 1} → statement M
-unjudged-spec = tie.close (tie.spec (λ c κs. search needs) returns)
+unjudged-spec = tie.close (tie.spec (λ c κs. search rules) returns)

@@ -1,5 +1,5 @@
 -- `preview::leading_passes` meets its contract: before a turn the first i verdicts are 0. Assumes nothing.
-use Rattle.laws.proofs.Base.{◌-◌, ◌≤◌, ◌<◌, ◌≡◌, ℕ, arith, needs, length, get_or, below_more}
+use Rattle.laws.proofs.Base.{◌-◌, ◌≤◌, ◌<◌, ◌≡◌, ℕ, arith, rules, length, get_or, below_more}
 use Rattle.preview.proofs.leading_passes.Statement.{statement}
 use Rattle.preview.proofs.leading_passes.Tie as tie
 
@@ -33,10 +33,10 @@ leading-passes-spec =
     invariant-loop
     decreases-loop
     (λ c. (omega arith, λ k h. absurd (omega arith)))
-    (λ c. search needs)
-    (λ c. search needs)
+    (λ c. search rules)
+    (λ c. search rules)
     returns
-    (λ c. search needs)
-    (λ c. search needs)
+    (λ c. search rules)
+    (λ c. search rules)
     loop-again
     returns-2)

@@ -1,5 +1,5 @@
 -- `preview::try_counts` meets its contract: before a turn all counts before i have passed, or the words are no state. Assumes nothing.
-use Rattle.laws.proofs.Base.{ℕ, ◌-◌, ◌≤◌, ◌<◌, ◌≡◌, refl, sym, ap, ◌∙◌, arith, needs, length, take, drop, length-take-le, length-replicate}
+use Rattle.laws.proofs.Base.{ℕ, ◌-◌, ◌≤◌, ◌<◌, ◌≡◌, refl, sym, ap, ◌∙◌, arith, rules, length, take, drop, length-take-le, length-replicate}
 use mir.Syntax.{w64}
 use mir.Val.{Fits}
 use Rattle.monitor.specs.Monitoring.{monitor_view_of}
@@ -64,7 +64,7 @@ piece c h =
 array-share-prefix-verdicts : tie.Need-array-share-prefix-verdicts invariant-loop decreases-loop
 array-share-prefix-verdicts c =
     let ran = c.before.before.before.before in
-    let whole : length ran.run-piece.new.1.1.0 ≡ 1_024 = search needs in
+    let whole : length ran.run-piece.new.1.1.0 ≡ 1_024 = search rules in
     omega (arith, whole, (piece ran c.if1.false).number, (head ran).loop.invariant.2)
 
 slice-aggregate-leading-passes : tie.Need-slice-aggregate-leading-passes invariant-loop decreases-loop
@@ -82,12 +82,12 @@ turn c =
     let known = c.before.before.if1.false in
     turned (monitor_view_of (monitor_from (start ran).args.words.now)) (start ran).args.counts.now (head ran).loop.words _ _
     (head ran).loop.i (length (head ran).loop.verdicts) ran.run-piece.result c.leading-passes.result
-    ((head ran).loop.inv.4.passed (legal ran known)) (piece ran known) (omega (arith, (head ran).loop.inv.2)) (search needs)
+    ((head ran).loop.inv.4.passed (legal ran known)) (piece ran known) (omega (arith, (head ran).loop.inv.2)) (search rules)
     c.leading-passes.ensures
 
 -- A place of the list, or the one behind it.
 fits : (c : tie.After-leading-passes invariant-loop decreases-loop) → Fits w64 (length (start (piece-ran c)).args.counts.now)
-fits c = search needs
+fits c = search rules
 
 -- A verdict that is no pass is one of the piece.
 one_of : (c : tie.After-leading-passes invariant-loop decreases-loop) → c.leading-passes.result < (piece-ran c).run-piece.result
@@ -95,10 +95,10 @@ one_of : (c : tie.After-leading-passes invariant-loop decreases-loop) → c.lead
 one_of c h = omega (arith, h, (piece (piece-ran c) c.before.before.if1.false).number, (head (piece-ran c)).loop.inv.2)
 
 mul-verdict : tie.Need-overflow-mul-verdict invariant-loop decreases-loop
-mul-verdict c = let few = one_of c.before c.if2.true in search needs
+mul-verdict c = let few = one_of c.before c.if2.true in search rules
 
 array-read-verdict : tie.Need-array-read-verdict invariant-loop decreases-loop
-array-read-verdict c = let few = one_of c.before c.if2.true in search needs
+array-read-verdict c = let few = one_of c.before c.if2.true in search rules
 
 add-result : tie.Need-overflow-add-result invariant-loop decreases-loop
 add-result c = omega (arith, fits c.before, (turn c.before).within, (turn c.before).part)
@@ -132,8 +132,8 @@ loop-again c =
     let t = turn c.before.before in
     let ran = piece-ran c.before.before in (
       t.within,
-      search needs,
-      search needs,
+      search rules,
+      search rules,
       (head ran).loop.inv.3,
       record {
         passed = λ l. t.goes_on c.before.if2.false;
@@ -147,26 +147,26 @@ try-counts-spec =
     (tie.spec
     invariant-loop
     decreases-loop
-    (λ c κs. search needs)
+    (λ c κs. search rules)
     loop-holds
-    (λ c. search needs)
-    (λ c. search needs)
-    (λ c. search needs)
-    (λ c. search needs)
-    (λ c. search needs)
-    (λ c κs. search needs)
-    (λ c. search needs)
+    (λ c. search rules)
+    (λ c. search rules)
+    (λ c. search rules)
+    (λ c. search rules)
+    (λ c. search rules)
+    (λ c κs. search rules)
+    (λ c. search rules)
     returns
     array-share-prefix-verdicts
     slice-aggregate-leading-passes
-    (λ c κs. search needs)
+    (λ c κs. search rules)
     mul-verdict
     array-read-verdict
     add-result
-    (λ c. search needs)
+    (λ c. search rules)
     returns-2
     add-i
-    (λ c. search needs)
+    (λ c. search rules)
     returns-3
     loop-less
     loop-again)

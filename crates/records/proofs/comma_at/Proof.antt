@@ -1,6 +1,6 @@
 -- `records::comma_at` meets its contract.
 -- Assumes nothing.
-use Rattle.laws.proofs.Base.{arith, needs}
+use Rattle.laws.proofs.Base.{arith, rules}
 use Rattle.records.proofs.Spelling.{comma_told}
 use Rattle.records.proofs.comma_at.Statement.{statement}
 use Rattle.records.proofs.comma_at.Tie as tie
@@ -10,5 +10,5 @@ comma-at-spec =
     tie.close
     (tie.spec
     (λ c. λ k. omega (arith, k.0, c.if1.true))
-    (λ c. search needs)
+    (λ c. search rules)
     (λ c. comma_told c.before.before.args.text.now c.before.before.args.at c.before.if1.false))

@@ -1,10 +1,10 @@
 -- `records::find_field` meets its contract: before a turn neither a comma nor CR LF stands among the bytes passed.
 -- Assumes nothing.
-use Rattle.laws.proofs.Base.{◌-◌, ◌≤◌, ◌≡◌, refl, ◌++◌, arith, needs, length, take, drop}
+use Rattle.laws.proofs.Base.{◌-◌, ◌≤◌, ◌≡◌, refl, ◌++◌, arith, rules, length, take, drop}
 use Rattle.laws.proofs.Tests.{either_true, either_false}
-use Rattle.csv.specs.Text.{Bytes}
-use Rattle.csv.specs.Records.{first_record}
-use Rattle.csv.proofs.Splitting.{splits_head_fields, passed_more, passed_found, passed_all}
+use Rattle.csv_text.specs.Text.{Bytes}
+use Rattle.csv_text.specs.Records.{first_record}
+use Rattle.csv_text.proofs.Splitting.{splits_head_fields, passed_more, passed_found, passed_all}
 use Rattle.records.specs.Steps.{first_field}
 use Rattle.records.proofs.find_field.Statement.{statement}
 use Rattle.records.proofs.find_field.Tie as tie
@@ -27,7 +27,7 @@ returns c =
 loop-again : tie.Need-loop-preserved invariant-loop decreases-loop
 loop-again c =
     let head = c.before.before.before in (
-      search needs,
+      search rules,
       passed_more splits_head_fields (text head) head.loop.n head.loop.invariant.1 (omega arith)
           (either_false _ _ _ c.if1.false c.before.ends-field.ensures),
     )
@@ -43,13 +43,13 @@ find-field-spec =
     (tie.spec
     invariant-loop
     decreases-loop
-    (λ c. (search needs, refl))
-    (λ c κs. search needs)
-    (λ c. search needs)
-    (λ c. search needs)
-    (λ c. search needs)
+    (λ c. (search rules, refl))
+    (λ c κs. search rules)
+    (λ c. search rules)
+    (λ c. search rules)
+    (λ c. search rules)
     returns
-    (λ c. search needs)
-    (λ c. search needs)
+    (λ c. search rules)
+    (λ c. search rules)
     loop-again
     returns-2)

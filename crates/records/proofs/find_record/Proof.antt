@@ -1,10 +1,10 @@
 -- `records::find_record` meets its contract: before a turn no CR LF stands at the bytes passed.
 -- Assumes nothing.
-use Rattle.laws.proofs.Base.{◌-◌, ◌≤◌, ◌≡◌, refl, ◌++◌, arith, needs, length, take, drop}
+use Rattle.laws.proofs.Base.{◌-◌, ◌≤◌, ◌≡◌, refl, ◌++◌, arith, rules, length, take, drop}
 use Rattle.laws.proofs.Tests.{either_true, either_false}
-use Rattle.csv.specs.Text.{Bytes}
-use Rattle.csv.proofs.Splitting.{splits_records, passed_more, passed_found, passed_all}
-use Rattle.csv.specs.Records.{first_record}
+use Rattle.csv_text.specs.Text.{Bytes}
+use Rattle.csv_text.proofs.Splitting.{splits_records, passed_more, passed_found, passed_all}
+use Rattle.csv_text.specs.Records.{first_record}
 use Rattle.records.proofs.find_record.Statement.{statement}
 use Rattle.records.proofs.find_record.Tie as tie
 
@@ -15,7 +15,7 @@ abbrev decreases-loop : tie.decreases-loop
 decreases-loop text n₀ n = length text - n
 
 loop-holds : tie.Need-loop-init invariant-loop decreases-loop
-loop-holds c = (search needs, refl)
+loop-holds c = (search rules, refl)
 
 abbrev text : tie.At-loop invariant-loop decreases-loop → Bytes
 text head = head.before.before.args.text.now
@@ -29,7 +29,7 @@ returns c =
 loop-again : tie.Need-loop-preserved invariant-loop decreases-loop
 loop-again c =
     let head = c.before.before.before in (
-      search needs,
+      search rules,
       passed_more splits_records (text head) head.loop.n head.loop.invariant.1 (omega arith)
           (either_false _ _ _ c.if1.false c.before.ends-line.ensures),
     )
@@ -46,12 +46,12 @@ find-record-spec =
     invariant-loop
     decreases-loop
     loop-holds
-    (λ c κs. search needs)
-    (λ c. search needs)
-    (λ c. search needs)
-    (λ c. search needs)
+    (λ c κs. search rules)
+    (λ c. search rules)
+    (λ c. search rules)
+    (λ c. search rules)
     returns
-    (λ c. search needs)
-    (λ c. search needs)
+    (λ c. search rules)
+    (λ c. search rules)
     loop-again
     returns-2)

@@ -1,6 +1,6 @@
 -- `records::parse_fields` meets its contract: one field after the other is a number or is none, and the last may be empty.
 -- Assumes nothing.
-use Rattle.laws.proofs.Base.{subst, needs}
+use Rattle.laws.proofs.Base.{subst, rules}
 use Rattle.records.specs.Steps.{Numbered}
 use Rattle.records.proofs.Fields.{figured_short, figured, no_most_lem}
 use Rattle.records.proofs.parse_fields.Statement.{statement}
@@ -43,19 +43,19 @@ pub parse-fields-spec : {M : Type 1} → statement M
 parse-fields-spec =
     tie.close
     (tie.spec
-    (λ c κs. search needs)
-    (λ c. search needs)
-    (λ c. search needs)
+    (λ c κs. search rules)
+    (λ c. search rules)
+    (λ c. search rules)
     returns
-    (λ c κs. search needs)
-    (λ c. search needs)
-    (λ c. search needs)
+    (λ c κs. search rules)
+    (λ c. search rules)
+    (λ c. search rules)
     returns-2
-    (λ c κs. search needs)
+    (λ c κs. search rules)
     returns-3
-    (λ c κs. search needs)
-    (λ c. search needs)
-    (λ c. search needs)
+    (λ c κs. search rules)
+    (λ c. search rules)
+    (λ c. search rules)
     returns-4
-    (λ c κs. search needs)
+    (λ c κs. search rules)
     returns-5)

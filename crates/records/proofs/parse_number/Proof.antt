@@ -1,6 +1,6 @@
 -- `records::parse_number` meets its contract: before a turn the bytes before i are digits, and spell the value.
 -- Assumes nothing.
-use Rattle.laws.proofs.Base.{◌-◌, inr, arith, needs}
+use Rattle.laws.proofs.Base.{◌-◌, inr, arith, rules}
 use Rattle.records.proofs.Spelling.{Spelling, spelling_none, spelling_more, spelling_fits, spelling_ends, spelling_done}
 use Rattle.records.proofs.Fields.{zero_alone, leading_zero, no_numeral}
 use Rattle.records.proofs.parse_number.Statement.{statement}
@@ -44,19 +44,19 @@ parse-number-spec =
     (tie.spec
     invariant-loop
     decreases-loop
-    (λ c. search needs)
-    (λ c. search needs)
-    (λ c. search needs)
+    (λ c. search rules)
+    (λ c. search rules)
+    (λ c. search rules)
     returns-3
     returns-4
     loop-holds
-    (λ c. search needs)
+    (λ c. search rules)
     returns-5
     returns-6
     (λ c. omega (arith, spelling_fits _ _ _ c.before.before.before.before.loop.invariant (omega arith)))
-    (λ c. search needs)
+    (λ c. search rules)
     (λ c. omega (arith, spelling_fits _ _ _ c.before.before.before.before.loop.invariant (omega arith)))
-    (λ c. search needs)
-    (λ c. search needs)
+    (λ c. search rules)
+    (λ c. search rules)
     loop-again
     returns-7)

@@ -1,10 +1,10 @@
 -- `records::read_record` meets its promise: there are three fields where a comma follows the first two, and none the third.
 -- Assumes nothing.
-use Rattle.laws.proofs.Base.{◌+◌, ◌≤◌, ◌≡◌, arith, needs, length}
+use Rattle.laws.proofs.Base.{◌+◌, ◌≤◌, ◌≡◌, arith, rules, length}
 use Rattle.laws.proofs.Tests.{told_yes, told_no, either_true, either_false}
-use Rattle.csv.specs.Text.{Bytes}
-use Rattle.csv.specs.Records.{first_record}
-use Rattle.csv.proofs.Splitting.{record_short}
+use Rattle.csv_text.specs.Text.{Bytes}
+use Rattle.csv_text.specs.Records.{first_record}
+use Rattle.csv_text.proofs.Splitting.{record_short}
 use Rattle.records.specs.Steps.{CommaAt}
 use Rattle.records.proofs.Fields.{after, fields_more, bytes_more, fields_one, bytes_one}
 use Rattle.records.proofs.Fields.{one_field, two_fields, more_fields, three_fields}
@@ -97,26 +97,26 @@ pub read-record-spec : {M : Type 1} → statement M
 read-record-spec =
     tie.close
     (tie.spec
-    (λ c κs. search needs)
-    (λ c κs. search needs)
+    (λ c κs. search rules)
+    (λ c κs. search rules)
     returns
     (λ c. omega (arith, (comma c).0))
     (λ c. omega (arith, (comma c).0))
     (λ c. omega (arith, (comma c).0))
-    (λ c. search needs)
-    (λ c κs. search needs)
-    (λ c κs. search needs)
+    (λ c. search rules)
+    (λ c κs. search rules)
+    (λ c κs. search rules)
     returns-2
     (λ c. omega (arith, (comma-2 c).0))
     (λ c. omega (arith, (comma-2 c).0))
     (λ c. omega (arith, (comma-2 c).0))
-    (λ c. search needs)
-    (λ c κs. search needs)
-    (λ c κs. search needs)
+    (λ c. search rules)
+    (λ c κs. search rules)
+    (λ c κs. search rules)
     returns-3
     (λ c. omega (arith, whole c, fits c))
     (λ c. omega (arith, whole c, fits c))
     (λ c. omega (arith, whole c, fits c))
     (λ c. omega (arith, whole c, fits c))
-    (λ c κs. search needs)
+    (λ c κs. search rules)
     returns-4)

@@ -1,6 +1,6 @@
 -- `rendering::render` meets its promise: each refusal where its question is the first that is answered no, and else the text.
 -- Assumes nothing.
-use Rattle.laws.proofs.Base.{◌≡◌, sym, ◌∙◌, subst, needs}
+use Rattle.laws.proofs.Base.{◌≡◌, sym, ◌∙◌, subst, rules}
 use Rattle.curves.specs.Unlimited.{AnyPair, with_mark}
 use Rattle.bounds.specs.declared.Asked.{Asked}
 use Rattle.bounds.proofs.Said.{Found, found}
@@ -23,15 +23,15 @@ pub render-spec : {M : Type 1} → statement M
 render-spec =
     tie.close
     (tie.spec
-    (λ c κs. search needs)
-    (λ c. search needs)
+    (λ c κs. search rules)
+    (λ c. search rules)
     (λ c κs. told c.before.before _ c.enum_told.given.1)
-    (λ c. search needs)
-    (λ c κs. search needs)
-    (λ c. search needs)
-    (λ c κs. search needs)
-    (λ c. search needs)
-    (λ c κs. search needs)
+    (λ c. search rules)
+    (λ c κs. search rules)
+    (λ c. search rules)
+    (λ c κs. search rules)
+    (λ c. search rules)
+    (λ c κs. search rules)
     returns
     (λ c. IsRefused-as _ _ _ c.refused.ensures (told c.before.before.before _ c.before.enum-told2.given.1))
     (λ c. IsRefused-as _ _ _ c.refused2.ensures (told c.before.before.before _ c.before.enum-told3.given.1))

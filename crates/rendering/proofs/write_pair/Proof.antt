@@ -1,12 +1,12 @@
 -- `rendering::write_pair` meets its contract: before a turn the text of n windows is written.
 -- Assumes nothing.
-use Rattle.laws.proofs.Base.{◌-◌, ◌≤◌, ◌≡◌, arith, needs, length, get_or}
+use Rattle.laws.proofs.Base.{◌-◌, ◌≤◌, ◌≡◌, arith, rules, length, get_or}
 use Rattle.laws.specs.Ranges.{fold}
 use Rattle.curves.specs.Unlimited.{AnyPair, with_mark}
 use Rattle.curves.proofs.Highest.{horizon_with}
 use mathlib.Core.Bool.{not}
-use Rattle.csv.specs.Text.{Bytes}
-use Rattle.csv.specs.Records.{most_if}
+use Rattle.csv_text.specs.Text.{Bytes}
+use Rattle.csv_text.specs.Records.{most_if}
 use Rattle.laws.specs.Writing.{Wrote}
 use Rattle.laws.proofs.Writing.{wrote_more}
 use Rattle.rendering.proofs.Laws.{text_to, text_next, text_whole, sizes_with, within_with, next_within, next_fits}
@@ -53,8 +53,8 @@ loop-again c =
     let k = c.before.before.before.before.before.before.before in
     let args = (start k).args in
     let next = c.before.before.«record».ensures in (
-      search needs,
-      search needs,
+      search rules,
+      search rules,
       λ found w. rw (text_next args.upper.now args.lower.now args.unlimited) (wrote_more (k.loop.invariant.2 found w) next),
     )
 
@@ -71,18 +71,18 @@ write-pair-spec =
     (tie.spec
     invariant-loop
     decreases-loop
-    (λ c. search needs)
-    (λ c κs. search needs)
-    (λ c. (search needs, search needs, λ found w. w))
+    (λ c. search rules)
+    (λ c κs. search rules)
+    (λ c. (search rules, search rules, λ found w. w))
     (λ c. omega (arith, sizes c.before))
     (λ c. omega (arith, sizes c.before))
-    (λ c. search needs)
+    (λ c. search rules)
     (λ c. omega (arith, sizes c.before.before))
-    (λ c. search needs)
-    (λ c. search needs)
+    (λ c. search rules)
+    (λ c. search rules)
     record-requires
-    (λ c. search needs)
-    (λ c. search needs)
+    (λ c. search rules)
+    (λ c. search rules)
     loop-again
-    (λ c. search needs)
+    (λ c. search rules)
     returns)

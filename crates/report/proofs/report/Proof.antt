@@ -1,6 +1,6 @@
 -- `report::report` meets its promise: what follows from what reading answers into lists of zeros.
 -- Assumes nothing.
-use Rattle.laws.proofs.Base.{ap, needs}
+use Rattle.laws.proofs.Base.{ap, rules}
 use Rattle.constraints.specs.Reading.{reading}
 use Rattle.report.specs.Report.{after_reading, output, reported}
 use Rattle.report.proofs.Answered.{into_zeros}
@@ -11,7 +11,7 @@ use Rattle.report.proofs.report.Tie as tie
 report-reading-requires : tie.Need-report-reading-requires
 report-reading-requires c κs =
     let told = c.before.before.before.before.read in
-    (search needs, read_within _ _ _ (ap (λ a. a.horizon) told.ensures))
+    (search rules, read_within _ _ _ (ap (λ a. a.horizon) told.ensures))
 
 returns : tie.Need-returns
 unfolding output
@@ -25,12 +25,12 @@ pub report-spec : {M : Type 1} → statement M
 report-spec =
     tie.close
     (tie.spec
-    (λ c κs. search needs)
-    (λ c κs. search needs)
-    (λ c. search needs)
-    (λ c. search needs)
-    (λ c κs. search needs)
-    (λ c. search needs)
-    (λ c. search needs)
+    (λ c κs. search rules)
+    (λ c κs. search rules)
+    (λ c. search rules)
+    (λ c. search rules)
+    (λ c κs. search rules)
+    (λ c. search rules)
+    (λ c. search rules)
     report-reading-requires
     returns)

@@ -1,6 +1,6 @@
 -- `report::report_closing` meets its contract: the closure that was given, or the line of the refusal.
 -- Assumes nothing.
-use Rattle.laws.proofs.Base.{sym, needs, length-take-le}
+use Rattle.laws.proofs.Base.{sym, rules, length-take-le}
 use Rattle.report.proofs.Answered.{line_told, next_told, mark_told}
 use Rattle.report.proofs.report_closing.Statement.{statement}
 use Rattle.report.proofs.report_closing.Tie as tie
@@ -29,11 +29,11 @@ pub report-closing-spec : {M : Type 1} → statement M
 report-closing-spec =
     tie.close
     (tie.spec
-    (λ c κs. search needs)
-    (λ c κs. search needs)
+    (λ c κs. search rules)
+    (λ c κs. search rules)
     returns
-    (λ c κs. search needs)
+    (λ c κs. search rules)
     slice-aggregate-report-closure
     slice-aggregate-report-closure-2
-    (λ c κs. search needs)
+    (λ c κs. search rules)
     returns-2)

@@ -1,6 +1,6 @@
 -- `report::report_closure` meets its contract: the text that was rendered, or the line of the refusal.
 -- Assumes nothing.
-use Rattle.laws.proofs.Base.{ap, ◌∙◌, arith, needs}
+use Rattle.laws.proofs.Base.{ap, ◌∙◌, arith, rules}
 use Rattle.report.proofs.Answered.{line_told, pair_shown}
 use Rattle.report.proofs.report_closure.Statement.{statement}
 use Rattle.report.proofs.report_closure.Tie as tie
@@ -22,9 +22,9 @@ pub report-closure-spec : {M : Type 1} → statement M
 report-closure-spec =
     tie.close
     (tie.spec
-    (λ c κs. search needs)
-    (λ c κs. search needs)
-    (λ c κs. search needs)
+    (λ c κs. search rules)
+    (λ c κs. search rules)
+    (λ c κs. search rules)
     returns
-    (λ c κs. search needs)
+    (λ c κs. search rules)
     returns-2)

@@ -1,6 +1,6 @@
 -- `report::report_pair` meets its contract: what follows from what closing answers into lists of zeros.
 -- Assumes nothing.
-use Rattle.laws.proofs.Base.{needs, length}
+use Rattle.laws.proofs.Base.{rules, length}
 use Rattle.curves.specs.Unlimited.{with_mark}
 use Rattle.closure.specs.Closing.{closing}
 use Rattle.report.specs.Report.{after_closing, reported}
@@ -21,12 +21,12 @@ pub report-pair-spec : {M : Type 1} → statement M
 report-pair-spec =
     tie.close
     (tie.spec
-    (λ c κs. search needs)
-    (λ c κs. search needs)
-    (λ c. search needs)
-    (λ c. search needs)
-    (λ c κs. search needs)
-    (λ c. search needs)
-    (λ c. search needs)
-    (λ c κs. search needs)
+    (λ c κs. search rules)
+    (λ c κs. search rules)
+    (λ c. search rules)
+    (λ c. search rules)
+    (λ c κs. search rules)
+    (λ c. search rules)
+    (λ c. search rules)
+    (λ c κs. search rules)
     returns)

@@ -1,6 +1,6 @@
 -- `report::report_reading` meets its contract: the pair that was read, closed; or the line of the refusal.
 -- Assumes nothing.
-use Rattle.laws.proofs.Base.{◌≤◌, sym, arith, needs, length, length-take-le}
+use Rattle.laws.proofs.Base.{◌≤◌, sym, arith, rules, length, length-take-le}
 use Rattle.report.proofs.Answered.{line_told, next_told, pair_told}
 use Rattle.report.proofs.report_reading.Statement.{statement}
 use Rattle.report.proofs.report_reading.Tie as tie
@@ -35,11 +35,11 @@ pub report-reading-spec : {M : Type 1} → statement M
 report-reading-spec =
     tie.close
     (tie.spec
-    (λ c κs. search needs)
-    (λ c κs. search needs)
+    (λ c κs. search rules)
+    (λ c κs. search rules)
     returns
-    (λ c κs. search needs)
-    (λ c κs. search needs)
+    (λ c κs. search rules)
+    (λ c κs. search rules)
     (λ c. sym (length-take-le _ _ (uppers c.before.before)))
     (λ c. sym (length-take-le _ _ (lowers c.before.before.before)))
     report-pair-requires

@@ -1,5 +1,5 @@
 -- `scripts::range_number` meets its contract. Assumes nothing.
-use Rattle.laws.proofs.Base.{ap, sym, needs}
+use Rattle.laws.proofs.Base.{ap, sym, rules}
 use Rattle.generator.specs.Answers.{range_reply}
 use Rattle.scripts.specs.Scripts.{range_number}
 use Rattle.scripts.proofs.range_number.Statement.{statement}
@@ -12,13 +12,13 @@ pub range-number-spec : {M : Type 1} → statement M
 range-number-spec =
     tie.close
     (tie.spec
-    (λ c. search needs)
-    (λ c. search needs)
-    (λ c. search needs)
-    (λ c. search needs)
-    (λ c. search needs)
-    (λ c. search needs)
-    (λ c. search needs)
+    (λ c. search rules)
+    (λ c. search rules)
+    (λ c. search rules)
+    (λ c. search rules)
+    (λ c. search rules)
+    (λ c. search rules)
+    (λ c. search rules)
     returns
-    (λ c. search needs)
-    (λ c. search needs))
+    (λ c. search rules)
+    (λ c. search rules))

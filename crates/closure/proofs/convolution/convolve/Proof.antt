@@ -1,6 +1,6 @@
 -- `closure::convolution::convolve` meets its contract: before a turn the sums with a part shorter than a are looked at.
 -- Assumes nothing.
-use Rattle.laws.proofs.Base.{◌+◌, ◌-◌, ◌≤◌, arith, needs, length}
+use Rattle.laws.proofs.Base.{◌+◌, ◌-◌, ◌≤◌, arith, rules, length}
 use Rattle.closure.proofs.Passes.{part_length}
 use Rattle.closure.proofs.Convolving.{Convolving, convolving_begins, convolving_normal, convolving_goes_on, convolving_ends}
 use Rattle.closure.proofs.convolution.convolve.Statement.{statement}
@@ -60,22 +60,22 @@ convolve-spec =
     decreases-loop
     (λ c. let args = c.before.before.args in (omega arith, omega arith, convolving_begins args.own.now args.best.now))
     (λ c. omega (arith, c.before.before.before.requires.0.short))
-    (λ c. search needs)
-    (λ c. search needs)
-    (λ c. search needs)
-    (λ c. search needs)
-    (λ c. search needs)
-    (λ c. search needs)
-    (λ c. search needs)
-    (λ c. search needs)
-    (λ c. search needs)
-    (λ c. search needs)
-    (λ c. search needs)
-    (λ c. search needs)
-    (λ c κs. search needs)
+    (λ c. search rules)
+    (λ c. search rules)
+    (λ c. search rules)
+    (λ c. search rules)
+    (λ c. search rules)
+    (λ c. search rules)
+    (λ c. search rules)
+    (λ c. search rules)
+    (λ c. search rules)
+    (λ c. search rules)
+    (λ c. search rules)
+    (λ c. search rules)
+    (λ c κs. search rules)
     lower-to-sums-requires
-    (λ c. search needs)
-    (λ c. search needs)
+    (λ c. search rules)
+    (λ c. search rules)
     loop-again
-    (λ c. search needs)
+    (λ c. search rules)
     returns)

@@ -1,6 +1,6 @@
 -- `closure::convolution::deconvolve` meets its contract: before a turn the windows longer by less than t ticks are looked at.
 -- Assumes nothing.
-use Rattle.laws.proofs.Base.{◌+◌, ◌-◌, ◌≤◌, ◌<◌, ◌≡◌, sym, arith, needs, length, take, length-take-le}
+use Rattle.laws.proofs.Base.{◌+◌, ◌-◌, ◌≤◌, ◌<◌, ◌≡◌, sym, arith, rules, length, take, length-take-le}
 use lib.ListN.{length-take}
 use Rattle.closure.proofs.Passes.{part_length}
 use Rattle.closure.proofs.Deconvolving.{Deconvolving, deconvolving_begins, deconvolving_normal}
@@ -70,20 +70,20 @@ deconvolve-spec =
     (λ c.
     let args = c.before.before.before.args in
     (omega arith, deconvolving_begins args.own.now args.other.now args.best.now))
-    (λ c. search needs)
-    (λ c. search needs)
-    (λ c. search needs)
+    (λ c. search rules)
+    (λ c. search rules)
+    (λ c. search rules)
     (λ c. count c.before.before c.before.loop-test.true)
-    (λ c. search needs)
-    (λ c. search needs)
-    (λ c. search needs)
-    (λ c. search needs)
-    (λ c. search needs)
-    (λ c. search needs)
-    (λ c κs. search needs)
+    (λ c. search rules)
+    (λ c. search rules)
+    (λ c. search rules)
+    (λ c. search rules)
+    (λ c. search rules)
+    (λ c. search rules)
+    (λ c κs. search rules)
     lower-to-sums-requires
-    (λ c. search needs)
-    (λ c. search needs)
+    (λ c. search rules)
+    (λ c. search rules)
     loop-again
-    (λ c. search needs)
+    (λ c. search rules)
     returns)

@@ -1,6 +1,6 @@
 -- `closure::convolution::lower_to_sums` meets its contract: before a turn the entries before i are lowered.
 -- Assumes nothing.
-use Rattle.laws.proofs.Base.{◌-◌, ◌≤◌, ◌≡◌, refl, sym, subst, arith, needs, length, get_or}
+use Rattle.laws.proofs.Base.{◌-◌, ◌≤◌, ◌≡◌, refl, sym, subst, arith, rules, length, get_or}
 use Rattle.laws.proofs.Table.{Filled, unfilled, stored, filled, later}
 use Rattle.curves.specs.Pairs.{figure}
 use Rattle.closure.specs.Steps.{Normal, smallest_of_five}
@@ -34,7 +34,7 @@ loop-again c =
     let turn = c.before.before.before in
     let args = turn.before.before.before.args in (
       omega arith,
-      search needs,
+      search rules,
       stored turn.loop.invariant.2 _ (omega arith)
           (least-turn args.row.now args.numbers args.best.now turn.loop.best turn.loop.i _ (entry turn)
           c.smallest-of-five.ensures),
@@ -47,13 +47,13 @@ lower-to-sums-spec =
     invariant-loop
     decreases-loop
     (λ c. (omega arith, refl, unfilled _ _))
-    (λ c. search needs)
-    (λ c. search needs)
+    (λ c. search rules)
+    (λ c. search rules)
     smallest-of-five-requires
-    (λ c. search needs)
-    (λ c. search needs)
-    (λ c. search needs)
-    (λ c. search needs)
+    (λ c. search rules)
+    (λ c. search rules)
+    (λ c. search rules)
+    (λ c. search rules)
     loop-again
-    (λ c. search needs)
+    (λ c. search rules)
     (λ c. filled c.before.loop.invariant.2 _ (omega arith) refl))

@@ -1,6 +1,6 @@
 -- `closure::convolution::smaller` meets its contract: the numbers are in the order of their floats.
 -- Assumes nothing.
-use Rattle.laws.proofs.Base.{sym, ap, ◌∙◌, subst, needs}
+use Rattle.laws.proofs.Base.{sym, ap, ◌∙◌, subst, rules}
 use lib.Dec.{T}
 use mathlib.Core.Bool.{not}
 use lib.Ieee.{Float, binary32, of_bits, to_bits, lt, is_nan}
@@ -28,6 +28,6 @@ smaller-spec =
     (tie.spec
     (λ c. no_nan_bits c.args.a c.requires.0)
     (λ c. no_nan_bits c.args.b c.requires.1)
-    (λ c κs. search needs)
+    (λ c κs. search rules)
     float-to-bits-result
     returns)

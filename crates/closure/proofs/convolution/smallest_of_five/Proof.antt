@@ -1,6 +1,6 @@
 -- `closure::convolution::smallest_of_five` meets its contract: all that it compares is normal.
 -- Assumes nothing.
-use Rattle.laws.proofs.Base.{◌+◌, min, ap, ◌∙◌, arith, needs, get_or}
+use Rattle.laws.proofs.Base.{◌+◌, min, ap, ◌∙◌, arith, rules, get_or}
 use Rattle.closure.specs.Steps.{Normal}
 use Rattle.closure.proofs.Rows.{smaller_normal}
 use Rattle.closure.proofs.convolution.smallest_of_five.Statement.{statement}
@@ -51,23 +51,23 @@ pub smallest-of-five-spec : {M : Type 1} → statement M
 smallest-of-five-spec =
     tie.close
     (tie.spec
-    (λ c. search needs)
-    (λ c. search needs)
+    (λ c. search rules)
+    (λ c. search rules)
     (λ c. omega (arith, c.before.before.before.requires.2.0.1))
     (λ c κs. (c.before.before.before.requires.1, c.before.before.before.requires.2.0))
-    (λ c. search needs)
-    (λ c. search needs)
-    (λ c. search needs)
+    (λ c. search rules)
+    (λ c. search rules)
+    (λ c. search rules)
     (λ c. omega (arith, (begun (at₂ c)).requires.2.1.1))
     (λ c κs. (normal₁ (at₂ c), (begun (at₂ c)).requires.2.1))
-    (λ c. search needs)
-    (λ c. search needs)
-    (λ c. search needs)
+    (λ c. search rules)
+    (λ c. search rules)
+    (λ c. search rules)
     (λ c. omega (arith, (begun (first (at₃ c))).requires.2.2.1))
     (λ c κs. (normal₂ (at₃ c), (begun (first (at₃ c))).requires.2.2))
-    (λ c. search needs)
-    (λ c. search needs)
-    (λ c. search needs)
+    (λ c. search rules)
+    (λ c. search rules)
+    (λ c. search rules)
     (λ c. omega (arith, (begun (first (second (at₄ c)))).requires.2.3.1))
     (λ c κs. (normal₃ (at₄ c), (begun (first (second (at₄ c)))).requires.2.3))
     returns)

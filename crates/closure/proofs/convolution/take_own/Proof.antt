@@ -1,6 +1,6 @@
 -- `closure::convolution::take_own` meets its contract: before a turn the figures before i are taken.
 -- Assumes nothing.
-use Rattle.laws.proofs.Base.{◌+◌, ◌-◌, ◌≤◌, ◌≡◌, refl, ap, arith, needs, length, get_or}
+use Rattle.laws.proofs.Base.{◌+◌, ◌-◌, ◌≤◌, ◌≡◌, refl, ap, arith, rules, length, get_or}
 use Rattle.laws.proofs.Table.{Filled, unfilled, stored, filled}
 use Rattle.closure.specs.Steps.{lift, in_row}
 use Rattle.closure.proofs.convolution.take_own.Statement.{statement}
@@ -27,7 +27,7 @@ loop-again : tie.Need-loop-preserved invariant-loop decreases-loop
 loop-again c =
     let head = c.before.before.loop in
     let own = c.before.before.before.args.own.now in
-    (omega arith, search needs, stored head.invariant.2 _ (omega arith) (ap (λ j. get_or own j 0 + lift) (omega arith)))
+    (omega arith, search rules, stored head.invariant.2 _ (omega arith) (ap (λ j. get_or own j 0 + lift) (omega arith)))
 
 returns : tie.Need-returns invariant-loop decreases-loop
 returns c = let end = c.before.loop in filled end.invariant.2 _ (omega arith) refl
@@ -39,14 +39,14 @@ take-own-spec =
     invariant-loop
     decreases-loop
     (λ c. (omega arith, refl, unfilled _ _))
-    (λ c. search needs)
-    (λ c. search needs)
-    (λ c. search needs)
+    (λ c. search rules)
+    (λ c. search rules)
+    (λ c. search rules)
     add-best-2
-    (λ c. search needs)
-    (λ c. search needs)
-    (λ c. search needs)
-    (λ c. search needs)
+    (λ c. search rules)
+    (λ c. search rules)
+    (λ c. search rules)
+    (λ c. search rules)
     loop-again
-    (λ c. search needs)
+    (λ c. search rules)
     returns)

@@ -1,6 +1,6 @@
 -- `closure::convolution::tighten` meets its contract: every entry stays comparable through both passes.
 -- Assumes nothing.
-use Rattle.laws.proofs.Base.{◌∙◌, ap, needs, length}
+use Rattle.laws.proofs.Base.{◌∙◌, ap, rules, length}
 use Rattle.closure.specs.Steps.{convolved, deconvolved}
 use Rattle.closure.proofs.Tightening.{after_own, after_convolve}
 use Rattle.closure.proofs.convolution.tighten.Statement.{statement}
@@ -35,8 +35,8 @@ pub tighten-spec : {M : Type 1} → statement M
 tighten-spec =
     tie.close
     (tie.spec
-    (λ c κs. search needs)
+    (λ c κs. search rules)
     convolve-requires
     deconvolve-requires
-    (λ c. search needs)
+    (λ c. search rules)
     returns)

@@ -1,6 +1,6 @@
 -- `closure::leasts::reaches_parts` meets its contract: before a turn it is known of the parts of up to a ticks.
 -- Assumes nothing.
-use Rattle.laws.proofs.Base.{ℕ, ◌+◌, ◌-◌, ◌≤◌, ◌<◌, ◌≡◌, subst, arith, needs, below_none, length, get_or}
+use Rattle.laws.proofs.Base.{ℕ, ◌+◌, ◌-◌, ◌≤◌, ◌<◌, ◌≡◌, subst, arith, rules, below_none, length, get_or}
 use Rattle.laws.specs.Tests.{Tells}
 use Rattle.laws.proofs.Tests.{leb_told, all_turn}
 use Rattle.closure.proofs.leasts.reaches_parts.Statement.{statement}
@@ -39,24 +39,24 @@ reaches-parts-spec =
     (tie.spec
     invariant-loop
     decreases-loop
-    (λ c. search needs)
-    (λ c. search needs)
+    (λ c. search rules)
+    (λ c. search rules)
     (λ c. omega (arith, c.shared-slice-known.given c.before.args.i))
     (λ c. (omega arith, below_none _))
-    (λ c. search needs)
-    (λ c. search needs)
+    (λ c. search rules)
+    (λ c. search rules)
     (λ c. omega (arith, c.shared-slice-known2.given c.before.before.loop.a))
-    (λ c. search needs)
-    (λ c. search needs)
-    (λ c. search needs)
-    (λ c. search needs)
+    (λ c. search rules)
+    (λ c. search rules)
+    (λ c. search rules)
+    (λ c. search rules)
     (λ c. omega (
       arith,
       c.shared-slice-known3.given
           (c.before.before.before.before.before.args.i - 1 - c.before.before.before.loop.a),
     ))
     add_holds
-    (λ c. search needs)
-    (λ c. search needs)
+    (λ c. search rules)
+    (λ c. search rules)
     loop-again
     returns)

@@ -1,6 +1,6 @@
 -- `closure::leasts::stand_ins` meets its contract: before a turn the figures of i windows are there.
 -- Assumes nothing.
-use Rattle.laws.proofs.Base.{ℕ, ◌-◌, ◌*◌, ◌≤◌, ◌≡◌, refl, ap, ◌∙◌, List, arith, needs, length, replicate, length-replicate}
+use Rattle.laws.proofs.Base.{ℕ, ◌-◌, ◌*◌, ◌≤◌, ◌≡◌, refl, ap, ◌∙◌, List, arith, rules, length, replicate, length-replicate}
 use Rattle.laws.proofs.Table.{Filled, unfilled, stored, filled}
 use Rattle.bounds.specs.Bounds.{max_horizon}
 use Rattle.closure.specs.Closing.{least_limit}
@@ -24,7 +24,7 @@ loop-again : tie.Need-loop-preserved invariant-loop decreases-loop
 loop-again c =
     let head = c.before.loop in
     let long = zeros-long c.before.before.zeros.ensures in
-    (omega arith, search needs, stored head.invariant.2 _ (omega arith) refl)
+    (omega arith, search rules, stored head.invariant.2 _ (omega arith) refl)
 
 pub stand-ins-spec : {M : Type 1} → statement M
 stand-ins-spec =
@@ -32,14 +32,14 @@ stand-ins-spec =
     (tie.spec
     invariant-loop
     decreases-loop
-    (λ c κs. search needs)
+    (λ c κs. search rules)
     loop-holds
-    (λ c. search needs)
-    (λ c. search needs)
-    (λ c. search needs)
-    (λ c. search needs)
-    (λ c. search needs)
-    (λ c. search needs)
-    (λ c. search needs)
+    (λ c. search rules)
+    (λ c. search rules)
+    (λ c. search rules)
+    (λ c. search rules)
+    (λ c. search rules)
+    (λ c. search rules)
+    (λ c. search rules)
     loop-again
     (λ c. filled c.before.loop.invariant.2 _ (omega arith) (zeros-long c.before.before.zeros.ensures)))

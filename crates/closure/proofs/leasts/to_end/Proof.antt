@@ -1,6 +1,6 @@
 -- `closure::leasts::to_end` meets its contract: the rounds of a pair with ceilings in the place of those that are missing.
 -- Assumes nothing.
-use Rattle.laws.proofs.Base.{sym, subst, subst⁻¹, needs, length, take}
+use Rattle.laws.proofs.Base.{sym, subst, subst⁻¹, rules, length, take}
 use Rattle.curves.specs.Pairs.{Pair, pair_of}
 use Rattle.closure.specs.Steps.{Fit, Ended, LeastsEnded}
 use Rattle.closure.specs.declared.Closing.{Closing}
@@ -46,13 +46,13 @@ pub to-end-spec : {M : Type 1} → statement M
 to-end-spec =
     tie.close
     (tie.spec
-    (λ c κs. search needs)
-    (λ c κs. search needs)
-    (λ c. search needs)
+    (λ c κs. search rules)
+    (λ c κs. search rules)
+    (λ c. search rules)
     slice-aggregate-to-end
-    (λ c. search needs)
+    (λ c. search rules)
     slice-aggregate-to-end-2
     to-end-requires
-    (λ c κs. search needs)
-    (λ c. search needs)
+    (λ c κs. search rules)
+    (λ c. search rules)
     returns)

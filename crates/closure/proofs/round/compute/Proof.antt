@@ -1,6 +1,6 @@
 -- `closure::round::compute` meets its contract: what is tightened in the two rows is the round.
 -- Assumes nothing.
-use Rattle.laws.proofs.Base.{ℕ, List, arith, needs}
+use Rattle.laws.proofs.Base.{ℕ, List, arith, rules}
 use Rattle.curves.specs.Pairs.{pair_of}
 use Rattle.curves.specs.Rounds.{round}
 use Rattle.closure.proofs.Rounding.{upper_bounded, lower_bounded, upper_ready, lower_ready, turned_small, new_uppers, new_lowers}
@@ -77,14 +77,14 @@ compute-spec =
     (tie.spec
     lifted-row-requires
     turned-row-requires
-    (λ c. search needs)
-    (λ c. search needs)
+    (λ c. search rules)
+    (λ c. search rules)
     tighten-requires
-    (λ c. search needs)
-    (λ c. search needs)
+    (λ c. search rules)
+    (λ c. search rules)
     tighten-requires-2
-    (λ c κs. search needs)
+    (λ c κs. search rules)
     turn-back-requires
-    (λ c. search needs)
-    (λ c. search needs)
+    (λ c. search rules)
+    (λ c. search rules)
     returns)

@@ -1,6 +1,6 @@
 -- `closure::round::turn_back` meets its contract: before a turn the entries before i are turned back.
 -- Assumes nothing.
-use Rattle.laws.proofs.Base.{◌+◌, ◌-◌, ◌≤◌, ◌≡◌, refl, ap, ◌∙◌, arith, needs, length, get_or}
+use Rattle.laws.proofs.Base.{◌+◌, ◌-◌, ◌≤◌, ◌≡◌, refl, ap, ◌∙◌, arith, rules, length, get_or}
 use Rattle.laws.proofs.Table.{Filled, unfilled, stored, filled, later}
 use Rattle.curves.specs.Pairs.{figure}
 use Rattle.closure.specs.Steps.{lift}
@@ -26,7 +26,7 @@ loop-again c =
     let found = c.before.before.before.args.list.now in
     let entry : get_or head.list head.i 0 ≡ figure 0 found (head.i + 1) =
     later head.invariant.2 head.i (omega arith) ∙ entry_figure found head.i in
-    (omega arith, search needs, stored head.invariant.2 _ (omega arith) (ap (λ x. (lift + lift) - x) entry))
+    (omega arith, search rules, stored head.invariant.2 _ (omega arith) (ap (λ x. (lift + lift) - x) entry))
 
 pub turn-back-spec : {M : Type 1} → statement M
 turn-back-spec =
@@ -35,13 +35,13 @@ turn-back-spec =
     invariant-loop
     decreases-loop
     (λ c. (omega arith, refl, unfilled _ _))
-    (λ c. search needs)
-    (λ c. search needs)
+    (λ c. search rules)
+    (λ c. search rules)
     sub-list
-    (λ c. search needs)
-    (λ c. search needs)
-    (λ c. search needs)
-    (λ c. search needs)
+    (λ c. search rules)
+    (λ c. search rules)
+    (λ c. search rules)
+    (λ c. search rules)
     loop-again
-    (λ c. search needs)
+    (λ c. search rules)
     (λ c. filled c.before.loop.invariant.2 _ (omega arith) refl))

@@ -1,6 +1,6 @@
 -- `closure::round::turned_row` meets its contract: before a turn the turned leasts of i windows are in the row.
 -- Assumes nothing.
-use Rattle.laws.proofs.Base.{◌-◌, ◌≤◌, refl, ap, arith, needs, length}
+use Rattle.laws.proofs.Base.{◌-◌, ◌≤◌, refl, ap, arith, rules, length}
 use Rattle.curves.specs.Pairs.{figure}
 use Rattle.closure.specs.Steps.{lift}
 use Rattle.closure.proofs.Rows.{Rowed, no_figures, figure_put, rowed_whole, entry_figure, entry_bounded}
@@ -34,13 +34,13 @@ turned-row-spec =
     invariant-loop
     decreases-loop
     (λ c. (omega arith, no_figures _ _ refl))
-    (λ c. search needs)
-    (λ c. search needs)
+    (λ c. search rules)
+    (λ c. search rules)
     sub_row
-    (λ c. search needs)
-    (λ c. search needs)
-    (λ c. search needs)
-    (λ c. search needs)
-    (λ c. search needs)
+    (λ c. search rules)
+    (λ c. search rules)
+    (λ c. search rules)
+    (λ c. search rules)
+    (λ c. search rules)
     loop-again
     returns)

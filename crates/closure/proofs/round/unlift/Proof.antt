@@ -1,6 +1,6 @@
 -- `closure::round::unlift` meets its contract: before a turn the entries before i have their lift taken off.
 -- Assumes nothing.
-use Rattle.laws.proofs.Base.{◌+◌, ◌-◌, ◌≤◌, ◌≡◌, refl, ap, ◌∙◌, arith, needs, length, get_or}
+use Rattle.laws.proofs.Base.{◌+◌, ◌-◌, ◌≤◌, ◌≡◌, refl, ap, ◌∙◌, arith, rules, length, get_or}
 use Rattle.laws.proofs.Table.{Filled, unfilled, stored, filled, later}
 use Rattle.curves.specs.Pairs.{figure}
 use Rattle.closure.specs.Steps.{lift}
@@ -21,7 +21,7 @@ loop-again c =
     let found = c.before.before.before.before.before.args.list.now in
     let entry : get_or head.list head.i 0 ≡ figure 0 found (head.i + 1) =
     later head.invariant.2 head.i (omega arith) ∙ entry_figure found head.i in
-    (omega arith, search needs, stored head.invariant.2 _ (omega arith) (c.unlifted.ensures ∙ ap (λ x. x - (lift + lift)) entry))
+    (omega arith, search rules, stored head.invariant.2 _ (omega arith) (c.unlifted.ensures ∙ ap (λ x. x - (lift + lift)) entry))
 
 pub unlift-spec : {M : Type 1} → statement M
 unlift-spec =
@@ -30,13 +30,13 @@ unlift-spec =
     invariant-loop
     decreases-loop
     (λ c. (omega arith, refl, unfilled _ _))
-    (λ c. search needs)
-    (λ c. search needs)
-    (λ c κs. search needs)
-    (λ c. search needs)
-    (λ c. search needs)
-    (λ c. search needs)
-    (λ c. search needs)
+    (λ c. search rules)
+    (λ c. search rules)
+    (λ c κs. search rules)
+    (λ c. search rules)
+    (λ c. search rules)
+    (λ c. search rules)
+    (λ c. search rules)
     loop-again
-    (λ c. search needs)
+    (λ c. search rules)
     (λ c. filled c.before.loop.invariant.2 _ (omega arith) refl))

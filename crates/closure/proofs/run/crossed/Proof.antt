@@ -1,6 +1,6 @@
 -- `closure::run::crossed` meets its contract: before a turn no least before i is above its ceiling.
 -- Assumes nothing.
-use Rattle.laws.proofs.Base.{ℕ, ◌-◌, ◌≤◌, ◌<◌, arith, needs, below_none, below_more, length, get_or}
+use Rattle.laws.proofs.Base.{ℕ, ◌-◌, ◌≤◌, ◌<◌, arith, rules, below_none, below_more, length, get_or}
 use Rattle.closure.proofs.Running.{crossed_at, uncrossed}
 use Rattle.closure.proofs.run.crossed.Statement.{statement}
 use Rattle.closure.proofs.run.crossed.Tie as tie
@@ -17,7 +17,7 @@ returns c =
     crossed_at head.before.args.upper.now head.before.args.lower.now head.loop.i (omega arith) c.if1.true
 
 loop-again : tie.Need-loop-preserved invariant-loop decreases-loop
-loop-again c = (search needs, below_more _ _ c.before.before.before.before.loop.invariant.1 c.if1.false)
+loop-again c = (search rules, below_more _ _ c.before.before.before.before.loop.invariant.1 c.if1.false)
 
 returns-2 : tie.Need-returns-2 invariant-loop decreases-loop
 returns-2 c = let head = c.before.loop in uncrossed _ _ head.i head.invariant.1 c.loop-test.false
@@ -28,13 +28,13 @@ crossed-spec =
     (tie.spec
     invariant-loop
     decreases-loop
-    (λ c. (search needs, below_none _))
-    (λ c. search needs)
-    (λ c. search needs)
-    (λ c. search needs)
-    (λ c. search needs)
+    (λ c. (search rules, below_none _))
+    (λ c. search rules)
+    (λ c. search rules)
+    (λ c. search rules)
+    (λ c. search rules)
     returns
-    (λ c. search needs)
-    (λ c. search needs)
+    (λ c. search rules)
+    (λ c. search rules)
     loop-again
     returns-2)

@@ -1,6 +1,6 @@
 -- `closure::run::next_round` meets its contract: what is copied back is the round that was compared.
 -- Assumes nothing.
-use Rattle.laws.proofs.Base.{◌∙◌, needs}
+use Rattle.laws.proofs.Base.{◌∙◌, rules}
 use Rattle.lists.proofs.Whole.{whole}
 use Rattle.closure.proofs.Running.{pairs-told, same_pairs}
 use Rattle.closure.proofs.run.next_round.Statement.{statement}
@@ -16,7 +16,7 @@ returns c =
     let ls = start.args.lower.now in
     record {
       figures =
-          same_pairs _ _ _ _ (whole uppers.ensures (search needs)) (whole lowers.ensures (search needs))
+          same_pairs _ _ _ _ (whole uppers.ensures (search rules)) (whole lowers.ensures (search rules))
           ∙ first.compute.ensures;
       told = pairs-told us ls _ _ uppers.result lowers.result uppers.ensures.told lowers.ensures.told;
     }
@@ -25,11 +25,11 @@ pub next-round-spec : {M : Type 1} → statement M
 next-round-spec =
     tie.close
     (tie.spec
-    (λ c κs. search needs)
-    (λ c κs. search needs)
-    (λ c κs. search needs)
-    (λ c. search needs)
-    (λ c. search needs)
-    (λ c. search needs)
-    (λ c. search needs)
+    (λ c κs. search rules)
+    (λ c κs. search rules)
+    (λ c κs. search rules)
+    (λ c. search rules)
+    (λ c. search rules)
+    (λ c. search rules)
+    (λ c. search rules)
     returns)

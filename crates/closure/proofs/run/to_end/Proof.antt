@@ -1,6 +1,6 @@
 -- `closure::run::to_end` meets its contract: the four parts to compute in are as long as the pair's lists.
 -- Assumes nothing.
-use Rattle.laws.proofs.Base.{ℕ, ◌≡◌, sym, List, needs, length, take}
+use Rattle.laws.proofs.Base.{ℕ, ◌≡◌, sym, List, rules, length, take}
 use Rattle.closure.proofs.Running.{part_long}
 use Rattle.closure.proofs.run.to_end.Statement.{statement}
 use Rattle.closure.proofs.run.to_end.Tie as tie
@@ -37,19 +37,19 @@ pub to-end-spec : {M : Type 1} → statement M
 to-end-spec =
     tie.close
     (tie.spec
-    (λ c κs. search needs)
-    (λ c κs. search needs)
-    (λ c κs. search needs)
-    (λ c κs. search needs)
-    (λ c. search needs)
+    (λ c κs. search rules)
+    (λ c κs. search rules)
+    (λ c κs. search rules)
+    (λ c κs. search rules)
+    (λ c. search rules)
     (λ c. (long c.before.before.before).0)
-    (λ c. search needs)
+    (λ c. search rules)
     (λ c. (long c.before.before.before.before).1)
-    (λ c. search needs)
+    (λ c. search rules)
     (λ c. (long c.before.before.before.before.before).2)
-    (λ c. search needs)
+    (λ c. search rules)
     (λ c. (long c.before.before.before.before.before.before).3)
     to-end-in-requires
-    (λ c. search needs)
-    (λ c. search needs)
-    (λ c. search needs))
+    (λ c. search rules)
+    (λ c. search rules)
+    (λ c. search rules))

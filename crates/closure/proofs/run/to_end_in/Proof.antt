@@ -1,6 +1,6 @@
 -- `closure::run::to_end_in` meets its contract: the rounds are those of the pair that was copied, and what they stop with is delivered.
 -- Assumes nothing.
-use Rattle.laws.proofs.Base.{ap, arith, needs, length}
+use Rattle.laws.proofs.Base.{ap, arith, rules, length}
 use Rattle.lists.proofs.Whole.{whole}
 use Rattle.closure.proofs.Running.{ready, ended, same_pairs}
 use Rattle.closure.proofs.run.to_end_in.Statement.{statement}
@@ -53,14 +53,14 @@ pub to-end-in-spec : {M : Type 1} → statement M
 to-end-in-spec =
     tie.close
     (tie.spec
-    (λ c κs. search needs)
-    (λ c κs. search needs)
+    (λ c κs. search rules)
+    (λ c κs. search rules)
     until-stop-requires
     deliver-requires
-    (λ c. search needs)
-    (λ c. search needs)
-    (λ c. search needs)
-    (λ c. search needs)
-    (λ c. search needs)
-    (λ c. search needs)
+    (λ c. search rules)
+    (λ c. search rules)
+    (λ c. search rules)
+    (λ c. search rules)
+    (λ c. search rules)
+    (λ c. search rules)
     returns)

@@ -1,6 +1,6 @@
 -- `closure::run::until_stop` meets its contract: before a turn the rounds have come to the pair that is held, and are nine at most.
 -- Assumes nothing.
-use Rattle.laws.proofs.Base.{◌-◌, ◌≤◌, ◌≡◌, refl, arith, needs, length}
+use Rattle.laws.proofs.Base.{◌-◌, ◌≤◌, ◌≡◌, refl, arith, rules, length}
 use Rattle.curves.specs.Rounds.{cut_off, Crossed}
 use Rattle.curves.specs.Pairs.{pair_of}
 use Rattle.laws.proofs.Tests.{either_true, either_false}
@@ -37,7 +37,7 @@ next-round-requires c κs =
     let head = went_on.before.before.before.before in
     let start = head.before.before.before.before.before in
     let uncrossed = either_false _ _ _ went_on.if1.false went_on.before.crossed.ensures in
-    (search needs, omega (arith, start.requires.0.0, head.loop.invariant.1), half_width _ _ _ head.loop.invariant.0 start.requires.0.1 uncrossed)
+    (search rules, omega (arith, start.requires.0.0, head.loop.invariant.1), half_width _ _ _ head.loop.invariant.0 start.requires.0.1 uncrossed)
 
 -- The turn's beginning, seen from its round, and that no least was above its ceiling there.
 abbrev head : tie.After-next-round invariant-loop decreases-loop → tie.At-loop invariant-loop decreases-loop
@@ -64,9 +64,9 @@ loop-again : tie.Need-loop-preserved invariant-loop decreases-loop
 loop-again c =
     let a = c.before.before.before.before.before.before.before.before.before in (
       goes_on _ _ _ (head a).loop.invariant.0 (uncrossed a) _ _ a.next-round.ensures c.if2.false,
-      search needs,
-      search needs,
-      search needs,
+      search rules,
+      search rules,
+      search rules,
     )
 
 pub until-stop-spec : {M : Type 1} → statement M
@@ -76,17 +76,17 @@ until-stop-spec =
     invariant-loop
     decreases-loop
     loop-holds
-    (λ c κs. search needs)
-    (λ c. search needs)
-    (λ c. search needs)
-    (λ c. search needs)
-    (λ c. search needs)
+    (λ c κs. search rules)
+    (λ c. search rules)
+    (λ c. search rules)
+    (λ c. search rules)
+    (λ c. search rules)
     returns
     next-round-requires
-    (λ c. search needs)
-    (λ c. search needs)
-    (λ c. search needs)
-    (λ c. search needs)
+    (λ c. search rules)
+    (λ c. search rules)
+    (λ c. search rules)
+    (λ c. search rules)
     returns-2
     add_rounds
     loop-less

@@ -1,7 +1,7 @@
 -- `constraints::table::ceiling` meets its contract: the product fits, as both factors are bounded.
 -- Assumes nothing.
-use Rattle.laws.proofs.Base.{arith, needs, lt-ltb, le-ltb}
-use Rattle.csv.specs.Records.{message_limit}
+use Rattle.laws.proofs.Base.{arith, rules, lt-ltb, le-ltb}
+use Rattle.csv_text.specs.Records.{message_limit}
 use Rattle.constraints.proofs.Tables.{product_bound}
 use Rattle.constraints.proofs.table.ceiling.Statement.{statement}
 use Rattle.constraints.proofs.table.ceiling.Tie as tie
@@ -15,7 +15,7 @@ pub ceiling-spec : {M : Type 1} → statement M
 ceiling-spec =
     tie.close
     (tie.spec
-    (λ c. search needs)
+    (λ c. search rules)
     mul-result
     (λ c. rw (lt-ltb message_limit c.before.args.most c.if1.true))
     (λ c. rw (le-ltb message_limit c.before.args.most c.if1.false)))

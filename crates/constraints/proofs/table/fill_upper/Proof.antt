@@ -1,6 +1,6 @@
 -- `constraints::table::fill_upper` meets its contract: before a turn the entries before i are filled.
 -- Assumes nothing.
-use Rattle.laws.proofs.Base.{◌+◌, ◌-◌, ◌≤◌, ◌≡◌, arith, needs}
+use Rattle.laws.proofs.Base.{◌+◌, ◌-◌, ◌≤◌, ◌≡◌, arith, rules}
 use Rattle.laws.proofs.Table.{Filled, unfilled, stored, filled_front}
 use Rattle.constraints.specs.Steps.{ceiling_in}
 use Rattle.constraints.proofs.table.fill_upper.Statement.{statement}
@@ -24,15 +24,15 @@ fill-upper-spec =
     (tie.spec
     invariant-loop
     decreases-loop
-    (λ c. (search needs, unfilled _ _))
-    (λ c. search needs)
-    (λ c. search needs)
-    (λ c. search needs)
-    (λ c κs. search needs)
-    (λ c. search needs)
-    (λ c. search needs)
-    (λ c. search needs)
-    (λ c. search needs)
+    (λ c. (search rules, unfilled _ _))
+    (λ c. search rules)
+    (λ c. search rules)
+    (λ c. search rules)
+    (λ c κs. search rules)
+    (λ c. search rules)
+    (λ c. search rules)
+    (λ c. search rules)
+    (λ c. search rules)
     loop-again
-    (λ c. search needs)
+    (λ c. search rules)
     (λ c. filled_front c.before.loop.invariant.1 c.before.before.before.before.args.horizon (omega arith)))

@@ -1,6 +1,6 @@
 -- `generator::Generator::tick` meets its promise: what is sent and the next state follow from the range.
 -- Assumes nothing.
-use Rattle.laws.proofs.Base.{◌≡◌, ap, ◌∙◌, needs}
+use Rattle.laws.proofs.Base.{◌≡◌, ap, ◌∙◌, rules}
 use Rattle.history.specs.States.{view_of}
 use Rattle.history.proofs.Slicing.{Arrays}
 use Rattle.generator.specs.Generating.{sent_from, sending}
@@ -10,7 +10,7 @@ use Rattle.generator.proofs.Generator.tick.Statement.{statement}
 use Rattle.generator.proofs.Generator.tick.Tie as tie
 
 arrays : (s : tie.Start) → Arrays s.args.self.history
-arrays s = record { uppers = search needs; lowers = search needs; held = search needs }
+arrays s = record { uppers = search rules; lowers = search rules; held = search rules }
 
 choose-requires : tie.Need-choose-requires
 choose-requires c κs = chooses_where _ c.find-range.result c.find-range.ensures
@@ -42,8 +42,8 @@ pub tick-spec : {M : Type 1} → statement M
 tick-spec =
     tie.close
     (tie.spec
-    (λ c κs. search needs)
+    (λ c κs. search rules)
     choose-requires
-    (λ c. search needs)
+    (λ c. search rules)
     hold-requires
     returns)

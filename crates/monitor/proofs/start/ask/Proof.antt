@@ -1,6 +1,6 @@
 -- `monitor::start::ask` meets its contract: without ceilings the questions on the lists decide, and else closing's answer.
 -- Assumes nothing.
-use Rattle.laws.proofs.Base.{needs}
+use Rattle.laws.proofs.Base.{rules}
 use Rattle.monitor.proofs.Opening.{asked_closing, asked_without}
 use Rattle.monitor.proofs.start.ask.Statement.{statement}
 use Rattle.monitor.proofs.start.ask.Tie as tie
@@ -23,11 +23,11 @@ pub ask-spec : {M : Type 1} → statement M
 ask-spec =
     tie.close
     (tie.spec
-    (λ c κs. search needs)
-    (λ c κs. search needs)
+    (λ c κs. search rules)
+    (λ c κs. search rules)
     returns
-    (λ c κs. search needs)
-    (λ c κs. search needs)
-    (λ c. search needs)
-    (λ c. search needs)
+    (λ c κs. search rules)
+    (λ c κs. search rules)
+    (λ c. search rules)
+    (λ c. search rules)
     returns-2)

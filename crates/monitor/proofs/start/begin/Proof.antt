@@ -1,6 +1,6 @@
 -- `monitor::start::begin` meets its contract: in the first arm the opening is not refused, in the other it is.
 -- Assumes nothing.
-use Rattle.laws.proofs.Base.{◌∙◌, needs}
+use Rattle.laws.proofs.Base.{◌∙◌, rules}
 use Rattle.monitor.proofs.Opening.{begun_opened, begun_zero}
 use Rattle.monitor.proofs.start.begin.Statement.{statement}
 use Rattle.monitor.proofs.start.begin.Tie as tie
@@ -9,7 +9,7 @@ pub begin-spec : {M : Type 1} → statement M
 begin-spec =
     tie.close
     (tie.spec
-    (λ c. search needs)
-    (λ c κs. search needs)
+    (λ c. search rules)
+    (λ c κs. search rules)
     (λ c. begun_opened c.before.before.args.opening _ _ _ c.enum_told.given.1)
     (λ c. c.zero.ensures ∙ begun_zero c.before.before.args.opening _ _ _ c.before.match.keys2))

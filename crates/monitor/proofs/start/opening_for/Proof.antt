@@ -1,6 +1,6 @@
 -- `monitor::start::opening_for` meets its contract: in the last arm closing was refused with 5, or with 3.
 -- Assumes nothing.
-use Rattle.laws.proofs.Base.{◌≡◌, refl, needs}
+use Rattle.laws.proofs.Base.{◌≡◌, refl, rules}
 use Rattle.closure.proofs.Room.{others}
 use Rattle.monitor.specs.declared.MonitorOpening.TheVariants.{NoClosure}
 use Rattle.monitor.specs.Steps.{monitor_opening_for}
@@ -11,12 +11,12 @@ pub opening-for-spec : {M : Type 1} → statement M
 opening-for-spec =
     tie.close
     (tie.spec
-    (λ c. search needs)
-    (λ c. search needs)
-    (λ c. search needs)
-    (λ c. search needs)
-    (λ c. search needs)
-    (λ c. search needs)
-    (λ c. search needs)
-    (λ c. search needs)
+    (λ c. search rules)
+    (λ c. search rules)
+    (λ c. search rules)
+    (λ c. search rules)
+    (λ c. search rules)
+    (λ c. search rules)
+    (λ c. search rules)
+    (λ c. search rules)
     (λ c. others (λ k. NoClosure ≡ monitor_opening_for k) refl refl c.before.args.closing c.match.keys5))

@@ -1,6 +1,6 @@
 -- `monitor::windows::find_tightest` meets its contract: before a turn the margin is the smallest over the windows of up to d + 1 ticks.
 -- Assumes nothing.
-use Rattle.laws.proofs.Base.{ℕ, ◌+◌, ◌-◌, ◌*◌, ◌≤◌, refl, sym, subst, List, arith, needs, length, get_or}
+use Rattle.laws.proofs.Base.{ℕ, ◌+◌, ◌-◌, ◌*◌, ◌≤◌, refl, sym, subst, List, arith, rules, length, get_or}
 use Rattle.laws.proofs.Signed.{result_read}
 use Rattle.curves.specs.Streams.{count_limit}
 use Rattle.curves.specs.Unlimited.{with_mark}
@@ -25,7 +25,7 @@ loop-holds c =
     let first = c.margin-between in
     let s = c.before.before.before.before.before.before in
     let a = s.args in (
-      search needs,
+      search rules,
       summed_none _ _ _ _ _,
       subst
           (λ z. TightestTo (with_mark a.upper.now a.lower.now a.unlimited) (then a.ticks.now a.count) 1
@@ -118,59 +118,59 @@ find-tightest-spec =
     (tie.spec
     invariant-loop
     decreases-loop
-    (λ c. search needs)
-    (λ c. search needs)
-    (λ c κs. search needs)
+    (λ c. search rules)
+    (λ c. search rules)
+    (λ c κs. search rules)
     loop-holds
-    (λ c. search needs)
-    (λ c. search needs)
-    (λ c. search needs)
-    (λ c. search needs)
-    (λ c. search needs)
-    (λ c. search needs)
+    (λ c. search rules)
+    (λ c. search rules)
+    (λ c. search rules)
+    (λ c. search rules)
+    (λ c. search rules)
+    (λ c. search rules)
     (λ c. omega (arith, one-small c))
     (λ c. let s = start (head c) in omega (arith, one-small c, (head c).loop.invariant.0, s.pre.within, s.pre.fewer))
-    (λ c. search needs)
-    (λ c. search needs)
-    (λ c. search needs)
-    (λ c. search needs)
+    (λ c. search rules)
+    (λ c. search rules)
+    (λ c. search rules)
+    (λ c. search rules)
     (λ c. omega (arith, other-small c))
     (λ c. let t = head c.before in
     omega (arith, one-small c.before, other-small c, t.loop.inv.0, (start t).pre.within, (start t).pre.fewer))
-    (λ c. search needs)
-    (λ c. search needs)
-    (λ c. search needs)
-    (λ c. search needs)
-    (λ c. search needs)
+    (λ c. search rules)
+    (λ c. search rules)
+    (λ c. search rules)
+    (λ c. search rules)
+    (λ c. search rules)
     (λ c κs. let a = c.before.before.before in
     let t = head a in omega (arith, one-small a, t.loop.inv.0, (start t).pre.within, (start t).pre.fewer))
-    (λ c. search needs)
-    (λ c. search needs)
-    (λ c. search needs)
-    (λ c. search needs)
-    (λ c. search needs)
-    (λ c. search needs)
-    (λ c. search needs)
+    (λ c. search rules)
+    (λ c. search rules)
+    (λ c. search rules)
+    (λ c. search rules)
+    (λ c. search rules)
+    (λ c. search rules)
+    (λ c. search rules)
     (λ c κs. let b = c.before.before.before.before.before in
     let t = head b.before in
     omega (arith, one-small b.before, other-small b, t.loop.inv.0, (start t).pre.within, (start t).pre.fewer))
-    (λ c. search needs)
-    (λ c. search needs)
+    (λ c. search rules)
+    (λ c. search rules)
     loop-again
     returns
-    (λ c. search needs)
-    (λ c. search needs)
-    (λ c. search needs)
-    (λ c. search needs)
+    (λ c. search rules)
+    (λ c. search rules)
+    (λ c. search rules)
+    (λ c. search rules)
     (λ c. omega (arith, last-small c))
     (λ c. let t = tail c in omega (arith, last-small c, t.loop.inv.0, (start t).pre.within, (start t).pre.fewer))
-    (λ c. search needs)
-    (λ c. search needs)
-    (λ c. search needs)
-    (λ c. search needs)
-    (λ c. search needs)
-    (λ c. search needs)
-    (λ c. search needs)
+    (λ c. search rules)
+    (λ c. search rules)
+    (λ c. search rules)
+    (λ c. search rules)
+    (λ c. search rules)
+    (λ c. search rules)
+    (λ c. search rules)
     (λ c κs. let a = c.before.before in
     let t = tail a in omega (arith, last-small a, t.loop.inv.0, (start t).pre.within, (start t).pre.fewer))
     returns-2)

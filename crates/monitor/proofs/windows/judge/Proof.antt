@@ -1,6 +1,6 @@
 -- `monitor::windows::judge` meets its contract: before a turn the windows of up to d ticks keep their figures.
 -- Assumes nothing.
-use Rattle.laws.proofs.Base.{◌+◌, ◌-◌, ◌*◌, ◌≤◌, arith, needs, length, get_or}
+use Rattle.laws.proofs.Base.{◌+◌, ◌-◌, ◌*◌, ◌≤◌, arith, rules, length, get_or}
 use lib.IntN.{pos}
 use lib.Signed.{◌≤ℤ◌, ◌<ℤ◌}
 use Rattle.laws.proofs.Signed.{less_told, not_less_told}
@@ -86,25 +86,25 @@ judge-spec =
     (tie.spec
     invariant-loop
     decreases-loop
-    (λ c. (search needs, summed_none _ _ _ _ _, kept_none _ _))
-    (λ c. search needs)
-    (λ c. search needs)
-    (λ c. search needs)
-    (λ c. search needs)
+    (λ c. (search rules, summed_none _ _ _ _ _, kept_none _ _))
+    (λ c. search rules)
+    (λ c. search rules)
+    (λ c. search rules)
+    (λ c. search rules)
     (λ c κs. omega (arith, (start c.before.before).pre.within, (start c.before.before).pre.fewer))
-    (λ c. search needs)
-    (λ c. search needs)
+    (λ c. search rules)
+    (λ c. search rules)
     (λ c. omega (arith, c.shared-slice-known6.given (failing c).loop.d))
-    (λ c. search needs)
-    (λ c. search needs)
-    (λ c. search needs)
-    (λ c. search needs)
-    (λ c. search needs)
-    (λ c. search needs)
+    (λ c. search rules)
+    (λ c. search rules)
+    (λ c. search rules)
+    (λ c. search rules)
+    (λ c. search rules)
+    (λ c. search rules)
     (λ c. omega (arith, added c))
     (λ c. omega (arith, added c, (start (head c)).pre.within, (start (head c)).pre.fewer))
-    (λ c. search needs)
-    (λ c. search needs)
+    (λ c. search rules)
+    (λ c. search rules)
     loop-again
     returns
     returns-2

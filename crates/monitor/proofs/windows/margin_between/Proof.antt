@@ -1,6 +1,6 @@
 -- `monitor::windows::margin_between` meets its contract: both differences fit, and the smaller one is given back; without ceilings, the
 -- one from the least. Assumes nothing.
-use Rattle.laws.proofs.Base.{◌+◌, ◌^◌, ◌<◌, ◌≡◌, sym, ◌∙◌, Bool, true, false, ◌&&◌, arith, needs}
+use Rattle.laws.proofs.Base.{◌+◌, ◌^◌, ◌<◌, ◌≡◌, sym, ◌∙◌, Bool, true, false, ◌&&◌, arith, rules}
 use mathlib.Core.Bool.{not}
 use lib.IntN.{pos, ◌-ℤ◌}
 use lib.Signed.{le_z}
@@ -43,10 +43,10 @@ pub margin-between-spec : {M : Type 1} → statement M
 margin-between-spec =
     tie.close
     (tie.spec
-    (λ c. search needs)
-    (λ c. search needs)
+    (λ c. search rules)
+    (λ c. search rules)
     (λ c. minus_fits _ _ (above-small c))
-    (λ c. search needs)
+    (λ c. search rules)
     (λ c. minus_fits _ _ (below-small c))
     returns
     returns-2)

@@ -1,6 +1,6 @@
 -- `monitor::windows::measure` meets its contract: where the margin is negative the judge names the window, and else the tick passes.
 -- Assumes nothing.
-use Rattle.laws.proofs.Base.{refl, arith, needs}
+use Rattle.laws.proofs.Base.{refl, arith, rules}
 use lib.IntN.{pos}
 use mir.Syntax.{w64}
 use mir.Val.{SFits}
@@ -24,7 +24,7 @@ abbrev margin : tie.After-struct-told → Margin
 margin t = margin_as t.before.before.find-tightest.result
 
 fits : (t : tie.After-struct-told) → SFits w64 (margin t).value
-fits t = search needs
+fits t = search rules
 
 tightest : (t : tie.After-struct-told) → let s = start t in Tightest (pair s) (then s.args.ticks.now s.args.count) (margin t)
 tightest t = t.before.before.find-tightest.ensures
@@ -60,4 +60,4 @@ returns-2 c =
     }
 
 pub measure-spec : {M : Type 1} → statement M
-measure-spec = tie.close (tie.spec (λ c κs. search needs) (λ c κs. search needs) returns returns-2)
+measure-spec = tie.close (tie.spec (λ c κs. search rules) (λ c κs. search rules) returns returns-2)

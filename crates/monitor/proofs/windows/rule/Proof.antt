@@ -1,6 +1,6 @@
 -- `monitor::windows::rule` meets its contract: what was found earlier, and whether it has a margin, tell what the figures are looked at for.
 -- Assumes nothing.
-use Rattle.laws.proofs.Base.{◌≡◌, refl, true, inl, inr, arith, needs}
+use Rattle.laws.proofs.Base.{◌≡◌, refl, true, inl, inr, arith, rules}
 use borrow.Author.Tests.{not-true, not-false}
 use Rattle.laws.proofs.Tests.{either_true, either_false}
 use Rattle.curves.specs.Pairs.{pair_of}
@@ -57,4 +57,4 @@ returns-4 c =
     (inr (either_false (All s) (¬ All s) found.result c.if3.false found.ensures, refl))
 
 pub rule-spec : {M : Type 1} → statement M
-rule-spec = tie.close (tie.spec returns (λ c κs. search needs) returns-2 keeps-requires returns-3 returns-4)
+rule-spec = tie.close (tie.spec returns (λ c κs. search rules) returns-2 keeps-requires returns-3 returns-4)

@@ -1,6 +1,6 @@
 -- `monitor::windows::tighter` meets its contract: the test compares what the bits of both margins are read as, which are the margins.
 -- Assumes nothing.
-use Rattle.laws.proofs.Base.{◌≡◌, sym, ap, ◌∙◌, Bool, true, false, cond, needs}
+use Rattle.laws.proofs.Base.{◌≡◌, sym, ap, ◌∙◌, Bool, true, false, cond, rules}
 use lib.IntN.{ℤ}
 use lib.Signed.{lt_z}
 use mir.Syntax.{w64}
@@ -23,7 +23,7 @@ read k = let j = k.margin-between in result_read j.result _ (record { sfits = j.
 tested : (k : tie.After-margin-between) (t : Bool) → let best = k.before.args.best in
     lt_z (to_z w64 (of_z w64 k.margin-between.result)) (to_z w64 (of_z w64 best.value)) ≡ t → t ≡ lt_z (other k.before) best.value
 tested k t e =
-    let f : SFits w64 k.before.args.best.value = search needs in sym e ∙ (λ i. lt_z (read k i) (to_z-of_z f i))
+    let f : SFits w64 k.before.args.best.value = search rules in sym e ∙ (λ i. lt_z (read k i) (to_z-of_z f i))
 
 -- Either margin, by the test.
 abbrev either : tie.Start → Bool → Margin
@@ -38,4 +38,4 @@ returns-2 : tie.Need-returns-2
 returns-2 c = let k = c.before.before.before in ap (either k.before) (tested k false c.if1.false)
 
 pub tighter-spec : {M : Type 1} → statement M
-tighter-spec = tie.close (tie.spec (λ c κs. search needs) returns returns-2)
+tighter-spec = tie.close (tie.spec (λ c κs. search rules) returns returns-2)

@@ -1,9 +1,9 @@
 -- `rendering::write::number`, which calls itself, meets its contract: n falls, and its digits are those of its tenth and one more.
 -- Assumes nothing.
-use Rattle.laws.proofs.Base.{ℕ, ◌<◌, arith, needs}
+use Rattle.laws.proofs.Base.{ℕ, ◌<◌, arith, rules}
 use borrow.Fn.Kinds.{In}
 use borrow.Fn.PlainCycle.{Measures, is, falls, and}
-use Rattle.csv.proofs.Numbers.{decimal_some, decimal_small, decimal_step}
+use Rattle.csv_text.proofs.Numbers.{decimal_some, decimal_small, decimal_step}
 use Rattle.laws.proofs.Writing.{wrote_more}
 use Rattle.rendering.proofs.Laws.{tenth_shorter}
 use Rattle.rendering.proofs.write.number.Reads as number
@@ -32,11 +32,11 @@ pub +number-spec : {M : Type 1} → statement M
     (number_at t)
     number.Post
     (λ c κs. omega (arith, decimal_some c.before.before.before.args.n))
-    (λ c. search needs)
+    (λ c. search rules)
     (λ c. rw (decimal_small c.before.before.before.before.before.before.args.n (omega arith)) c.before.before.digit.ensures)
     (λ c κs. omega (arith, tenth_shorter c.before.before.before.args.n (omega arith)))
     (λ c κs. omega (arith, tenth_shorter c.before.before.before.before.before.before.before.args.n (omega arith)))
-    (λ c. search needs)
+    (λ c. search rules)
     (λ c.
     rw (decimal_step c.before.before.before.before.before.before.before.before.before.before.args.n (omega arith))
     (wrote_more c.before.before.before.before.before.before.number.ensures c.before.before.digit2.ensures))

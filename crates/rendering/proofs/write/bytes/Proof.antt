@@ -1,6 +1,6 @@
 -- `rendering::write::bytes` meets its contract: before a turn the bytes before i are put in.
 -- Assumes nothing.
-use Rattle.laws.proofs.Base.{◌+◌, ◌-◌, ◌≤◌, ◌≡◌, arith, needs, length, take}
+use Rattle.laws.proofs.Base.{◌+◌, ◌-◌, ◌≤◌, ◌≡◌, arith, rules, length, take}
 use Rattle.laws.specs.Writing.{Wrote}
 use Rattle.laws.proofs.Writing.{wrote_length, wrote_none, wrote-entry, wrote-whole}
 use Rattle.rendering.proofs.write.bytes.Statement.{statement}
@@ -24,13 +24,13 @@ bytes-spec =
     (tie.spec
     invariant-loop
     decreases-loop
-    (λ c. (search needs, search needs, wrote_none _ _))
-    (λ c. search needs)
-    (λ c. search needs)
-    (λ c. search needs)
-    (λ c. search needs)
-    (λ c. search needs)
+    (λ c. (search rules, search rules, wrote_none _ _))
+    (λ c. search rules)
+    (λ c. search rules)
+    (λ c. search rules)
+    (λ c. search rules)
+    (λ c. search rules)
     loop-again
-    (λ c. search needs)
-    (λ c. search needs)
+    (λ c. search rules)
+    (λ c. search rules)
     (λ c. wrote-whole _ _ _ _ c.before.loop.i (omega arith) c.before.loop.invariant.2))

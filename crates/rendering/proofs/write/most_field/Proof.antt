@@ -1,6 +1,6 @@
 -- `rendering::write::most_field` meets its contract: the most in digits, or nothing.
 -- Assumes nothing.
-use Rattle.laws.proofs.Base.{ap, arith, needs, length}
+use Rattle.laws.proofs.Base.{ap, arith, rules, length}
 use Rattle.rendering.proofs.Laws.{field_given, field_none}
 use Rattle.rendering.proofs.write.most_field.Statement.{statement}
 use Rattle.rendering.proofs.write.most_field.Tie as tie
@@ -21,4 +21,4 @@ returns-2 c =
     let args = c.before.before.args in field_none args.capped args.most _ _ c.if1.false
 
 pub most-field-spec : {M : Type 1} → statement M
-most-field-spec = tie.close (tie.spec number-requires (λ c. search needs) returns returns-2)
+most-field-spec = tie.close (tie.spec number-requires (λ c. search rules) returns returns-2)

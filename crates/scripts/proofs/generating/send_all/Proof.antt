@@ -1,6 +1,6 @@
 -- `scripts::generating::send_all` meets its contract: before a turn the choices before i have been sent, and the generator is where these
 -- left it. Assumes nothing.
-use Rattle.laws.proofs.Base.{◌+◌, ◌-◌, ◌≤◌, ◌≡◌, refl, sym, ap, ◌∙◌, arith, needs, length, take, take_all}
+use Rattle.laws.proofs.Base.{◌+◌, ◌-◌, ◌≤◌, ◌≡◌, refl, sym, ap, ◌∙◌, arith, rules, length, take, take_all}
 use Rattle.laws.specs.Writing.{over}
 use Rattle.history.specs.States.{view_of}
 use Rattle.generator.specs.Calls.{sendings, after_sendings}
@@ -32,7 +32,7 @@ loop-again c =
     let v = view_of start.args.opened.history in
     let u = view_of head.generator.history in (
       omega (arith, inside),
-      search needs,
+      search rules,
       count_put v start.args.choices.now head.i inside u head.invariant.3 start.args.counts.now head.counts _ head.invariant.2
           (c.before.sending-code.ensures ∙ ap sending_code told.answer),
       send_on_lem v start.args.choices.now head.i inside u head.invariant.3 _ (generator_next _ _ _ told),
@@ -56,14 +56,14 @@ send-all-spec =
     invariant-loop
     decreases-loop
     loop-holds
-    (λ c. search needs)
-    (λ c. search needs)
-    (λ c κs. search needs)
-    (λ c κs. search needs)
-    (λ c. search needs)
-    (λ c. search needs)
-    (λ c. search needs)
-    (λ c. search needs)
+    (λ c. search rules)
+    (λ c. search rules)
+    (λ c κs. search rules)
+    (λ c κs. search rules)
+    (λ c. search rules)
+    (λ c. search rules)
+    (λ c. search rules)
+    (λ c. search rules)
     loop-again
-    (λ c. search needs)
+    (λ c. search rules)
     returns)

@@ -1,6 +1,6 @@
 -- `scripts::judging::judge_all` meets its contract: before a turn the counts before i have their verdicts and margins, and the monitor is
 -- where these left it. Assumes nothing.
-use Rattle.laws.proofs.Base.{◌+◌, ◌-◌, ◌≤◌, ◌≡◌, refl, sym, ap, ◌∙◌, subst⁻¹, Bool, true, false, ◌&&◌, arith, needs, length, take, take_all}
+use Rattle.laws.proofs.Base.{◌+◌, ◌-◌, ◌≤◌, ◌≡◌, refl, sym, ap, ◌∙◌, subst⁻¹, Bool, true, false, ◌&&◌, arith, rules, length, take, take_all}
 use lib.IntN.{pos}
 use mir.Syntax.{w64}
 use mir.Val.{SFits}
@@ -51,11 +51,11 @@ loop-again c =
     let start = test.before.before.before.before in
     let inside = test.loop-test.true in
     let w = monitor_view_of start.args.opened in
-    let fits : SFits w64 told.tick.result.margin = search needs in
+    let fits : SFits w64 told.tick.result.margin = search rules in
     let m = monitor_view_of head.monitor in (
       omega (arith, inside),
-      search needs,
-      search needs,
+      search rules,
+      search rules,
       verdict_put w start.args.counts.now head.i inside m head.invariant.5 start.args.verdicts.now head.verdicts _
           head.invariant.3
           (c.before.before.before.before.before.verdict-code.ensures ∙ ap ruling_code told.tick.ensures.answer),
@@ -118,20 +118,20 @@ judge-all-spec =
     invariant-loop
     decreases-loop
     loop-holds
-    (λ c κs. search needs)
-    (λ c. search needs)
-    (λ c. search needs)
+    (λ c κs. search rules)
+    (λ c. search rules)
+    (λ c. search rules)
     returns
-    (λ c. search needs)
-    (λ c. search needs)
-    (λ c κs. search needs)
+    (λ c. search rules)
+    (λ c. search rules)
+    (λ c κs. search rules)
     verdict-code-requires
-    (λ c. search needs)
-    (λ c. search needs)
-    (λ c κs. search needs)
+    (λ c. search rules)
+    (λ c. search rules)
+    (λ c κs. search rules)
     add-i
-    (λ c. search needs)
+    (λ c. search rules)
     loop-again
-    (λ c. search needs)
-    (λ c. search needs)
+    (λ c. search rules)
+    (λ c. search rules)
     returns-2)

@@ -1,6 +1,6 @@
 -- `scripts::judging::reject_from` meets its contract: what is left to be filled of either list comes to the same before every turn.
 -- Assumes nothing.
-use Rattle.laws.proofs.Base.{◌+◌, ◌-◌, ◌≤◌, ◌<◌, ◌≡◌, refl, sym, ap, ◌∙◌, arith, needs, length, length-set}
+use Rattle.laws.proofs.Base.{◌+◌, ◌-◌, ◌≤◌, ◌<◌, ◌≡◌, refl, sym, ap, ◌∙◌, arith, rules, length, length-set}
 use lib.IntN.{pos}
 use Rattle.scripts.specs.Runs.{filled_from}
 use Rattle.scripts.proofs.Running.{filled_more, filled_end}
@@ -44,12 +44,12 @@ reject-from-spec =
     invariant-loop
     decreases-loop
     (λ c. (refl, refl, refl, refl))
-    (λ c. search needs)
-    (λ c. search needs)
-    (λ c κs. search needs)
-    (λ c. search needs)
+    (λ c. search rules)
+    (λ c. search rules)
+    (λ c κs. search rules)
+    (λ c. search rules)
     (λ c. omega (arith, left c.before.before.before))
     loop-again
-    (λ c. search needs)
-    (λ c. search needs)
+    (λ c. search rules)
+    (λ c. search rules)
     returns)

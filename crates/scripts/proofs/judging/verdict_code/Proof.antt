@@ -1,6 +1,6 @@
 -- `scripts::judging::verdict_code` meets its contract: a window that is named leaves room for the kind of verdict beside it.
 -- Assumes nothing.
-use Rattle.laws.proofs.Base.{ℕ, ◌≤◌, sym, ap, subst, arith, needs}
+use Rattle.laws.proofs.Base.{ℕ, ◌≤◌, sym, ap, subst, arith, rules}
 use Rattle.bounds.specs.Bounds.{max_horizon}
 use Rattle.monitor.specs.declared.Verdict.{Verdict}
 use Rattle.monitor.specs.Answers.{verdict_reply}
@@ -29,20 +29,20 @@ pub verdict-code-spec : {M : Type 1} → statement M
 verdict-code-spec =
     tie.close
     (tie.spec
-    (λ c. search needs)
-    (λ c. search needs)
+    (λ c. search rules)
+    (λ c. search rules)
     (λ c. omega (arith, many c.before))
     (λ c. omega (arith, many c.before))
-    (λ c. search needs)
+    (λ c. search rules)
     (λ c. omega (arith, few c.before))
     (λ c. omega (arith, few c.before))
-    (λ c. search needs)
-    (λ c. search needs)
-    (λ c. search needs)
-    (λ c. search needs)
-    (λ c. search needs)
+    (λ c. search rules)
+    (λ c. search rules)
+    (λ c. search rules)
+    (λ c. search rules)
+    (λ c. search rules)
     returns-2
     returns-3
-    (λ c. search needs)
-    (λ c. search needs)
-    (λ c. search needs))
+    (λ c. search rules)
+    (λ c. search rules)
+    (λ c. search rules))

@@ -1,6 +1,6 @@
 -- `scripts::passing::count_passing` meets its contract: what keeps the stricter figures passes, and no count is counted before the sums of
 -- the held ticks are known. Assumes nothing.
-use Rattle.laws.proofs.Base.{ℕ, ◌+◌, ◌≤◌, ◌≡◌, refl, sym, ap, ◌∙◌, subst, List, ◌++◌, arith, needs, length, take, drop, length-take-le}
+use Rattle.laws.proofs.Base.{ℕ, ◌+◌, ◌≤◌, ◌≡◌, refl, sym, ap, ◌∙◌, subst, List, ◌++◌, arith, rules, length, take, drop, length-take-le}
 use borrow.Author.Tests.{not-false}
 use Rattle.monitor.specs.Calls.{rulings}
 use Rattle.scripts.specs.Steps.{KeptSums}
@@ -102,23 +102,23 @@ pub count-passing-spec : {M : Type 1} → statement M
 count-passing-spec =
     tie.close
     (tie.spec
-    (λ c κs. search needs)
-    (λ c. search needs)
-    (λ c. search needs)
+    (λ c κs. search rules)
+    (λ c. search rules)
+    (λ c. search rules)
     (λ c. long c.before)
     add-up-requires
     returns
-    (λ c κs. search needs)
-    (λ c κs. search needs)
-    (λ c. search needs)
-    (λ c κs. search needs)
-    (λ c. search needs)
-    (λ c κs. search needs)
-    (λ c. search needs)
+    (λ c κs. search rules)
+    (λ c κs. search rules)
+    (λ c. search rules)
+    (λ c κs. search rules)
+    (λ c. search rules)
+    (λ c κs. search rules)
+    (λ c. search rules)
     (λ c. ceilings-long c.before.before)
-    (λ c. search needs)
+    (λ c. search rules)
     (λ c. leasts-long c.before.before.before)
-    (λ c. search needs)
+    (λ c. search rules)
     array-borrow-prefix-sums-2
     (λ c. lent-long (added c.before.before.before.before))
     pass-requires

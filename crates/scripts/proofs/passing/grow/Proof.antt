@@ -1,6 +1,6 @@
 -- `scripts::passing::grow` meets its contract: before a turn the first i sums have grown, and it is known whether they are within.
 -- Assumes nothing.
-use Rattle.laws.proofs.Base.{◌+◌, ◌-◌, ◌≤◌, ◌≡◌, refl, arith, needs, length, get_or}
+use Rattle.laws.proofs.Base.{◌+◌, ◌-◌, ◌≤◌, ◌≡◌, refl, arith, rules, length, get_or}
 use Rattle.scripts.specs.Steps.{sum_limit}
 use Rattle.scripts.proofs.Growing.{Growing, growing_none, growing_small, growing_more, growing_all}
 use Rattle.scripts.proofs.passing.grow.Statement.{statement}
@@ -39,7 +39,7 @@ loop-again c =
     let turn = c.before.before.before.before.before in
     let placed = (start turn).requires.0 in (
       omega arith,
-      search needs,
+      search rules,
       growing_more _ _ _ _ turn.loop.invariant.2 c.inside.result (omega (arith, placed.sums_more)) c.inside.ensures,
     )
 
@@ -53,19 +53,19 @@ grow_spec =
     invariant-loop
     decreases-loop
     (λ c. (omega arith, refl, growing_none _ _ _ _))
-    (λ c. search needs)
-    (λ c. search needs)
-    (λ c. search needs)
+    (λ c. search rules)
+    (λ c. search rules)
+    (λ c. search rules)
     (λ c. record { fits = omega (arith, small c.before) })
-    (λ c. search needs)
-    (λ c. search needs)
-    (λ c. search needs)
-    (λ c. search needs)
-    (λ c. search needs)
-    (λ c. search needs)
+    (λ c. search rules)
+    (λ c. search rules)
+    (λ c. search rules)
+    (λ c. search rules)
+    (λ c. search rules)
+    (λ c. search rules)
     inside-requires
-    (λ c. search needs)
-    (λ c. search needs)
+    (λ c. search rules)
+    (λ c. search rules)
     loop-again
-    (λ c. search needs)
+    (λ c. search rules)
     returns)

@@ -1,6 +1,6 @@
 -- `scripts::passing::grow_twice` meets its contract: before a turn the first i sums have grown by both counts, and it is known whether they
 -- were within after each. Assumes nothing.
-use Rattle.laws.proofs.Base.{ℕ, ◌+◌, ◌-◌, ◌≤◌, ◌<◌, ◌≡◌, refl, subst, arith, needs, length, get_or}
+use Rattle.laws.proofs.Base.{ℕ, ◌+◌, ◌-◌, ◌≤◌, ◌<◌, ◌≡◌, refl, subst, arith, rules, length, get_or}
 use Rattle.scripts.specs.Steps.{sum_limit}
 use Rattle.scripts.proofs.Twice.{Doubling, doubling_none, once_small, twice_small, doubling_more, doubling_all}
 use Rattle.scripts.proofs.passing.grow_twice.Statement.{statement}
@@ -57,7 +57,7 @@ loop-again c =
     let s = start t in
     let inside = a.before.loop-test.true in (
       omega (arith, inside),
-      search needs,
+      search rules,
       doubling_more _ _ _ _ _ t.loop.inv.2 first.inside.result c.inside2.result (omega (arith, inside, s.pre.0.sums_more))
           first.inside.ensures c.inside2.ensures,
     )
@@ -103,57 +103,57 @@ grow-twice-spec =
     (λ c. let s = c.before.before.before in omega (arith, counts-small s))
     (λ c. let s = c.before.before.before in omega (arith, s.requires.1.0.0))
     (λ c. (omega arith, refl, doubling_none _ _ _ _ _))
-    (λ c. search needs)
-    (λ c. search needs)
-    (λ c. search needs)
+    (λ c. search rules)
+    (λ c. search rules)
+    (λ c. search rules)
     (λ c. record { fits = omega (arith, both_small c, counts-small (start (head c))) })
-    (λ c. search needs)
-    (λ c. search needs)
-    (λ c. search needs)
+    (λ c. search rules)
+    (λ c. search rules)
+    (λ c. search rules)
     (λ c. record { fits = omega (arith, both_small c.before, counts-small (start (head c.before))) })
-    (λ c. search needs)
-    (λ c. search needs)
-    (λ c. search needs)
-    (λ c. search needs)
-    (λ c. search needs)
-    (λ c. search needs)
+    (λ c. search rules)
+    (λ c. search rules)
+    (λ c. search rules)
+    (λ c. search rules)
+    (λ c. search rules)
+    (λ c. search rules)
     (λ c κs. let a = c.before.before.before in
     let f = figures-small (start (head a)) (head a).loop.i (omega (arith, a.before.loop-test.true)) in
     (f.0, omega (arith, both_small a, counts-small (start (head a))), f.1))
-    (λ c. search needs)
-    (λ c. search needs)
-    (λ c. search needs)
-    (λ c. search needs)
+    (λ c. search rules)
+    (λ c. search rules)
+    (λ c. search rules)
+    (λ c. search rules)
     (λ c κs. let a = c.before.before.before.before.before.before in
     let f = figures-small (start (head a)) (head a).loop.i (omega (arith, a.before.loop-test.true)) in
     (f.0, omega (arith, both_small a, counts-small (start (head a))), f.1))
-    (λ c. search needs)
-    (λ c. search needs)
+    (λ c. search rules)
+    (λ c. search rules)
     loop-again
-    (λ c. search needs)
-    (λ c. search needs)
+    (λ c. search rules)
+    (λ c. search rules)
     (λ c. omega (arith, some c.before, (start c.before.before).pre.0.sums_more, c.before.before.loop.invariant.1))
     (λ c. record { fits = omega (arith, last-small c.before, counts-small (start c.before.before)) })
-    (λ c. search needs)
-    (λ c. search needs)
+    (λ c. search rules)
+    (λ c. search rules)
     (λ c. let e = c.before.before in omega (arith, some e, (start e.before).pre.0.sums_more, e.before.loop.invariant.1))
     (λ c. let e = c.before.before in record { fits = omega (arith, last-small e, counts-small (start e.before)) })
-    (λ c. search needs)
+    (λ c. search rules)
     (λ c. let e = c.before.before in omega (arith, some e, (start e.before).pre.0.sums_more, e.before.loop.invariant.1))
-    (λ c. search needs)
+    (λ c. search rules)
     (λ c. let e = c.before.before.before in omega (arith, some e, (start e.before).pre.0.leasts_same))
-    (λ c. search needs)
+    (λ c. search rules)
     (λ c. let e = c.before.before.before.before in some e)
     (λ c κs. let e = c.before.before.before.before in
     let f = figures-small (start e.before) (place e) (some e) in
     (f.0, omega (arith, last-small e, counts-small (start e.before)), f.1))
-    (λ c. search needs)
+    (λ c. search rules)
     (λ c. let e = c.before.before.before.before.before.before in
     omega (arith, some e, (start e.before).pre.0.leasts_same))
-    (λ c. search needs)
+    (λ c. search rules)
     (λ c. let e = c.before.before.before.before.before.before.before in some e)
     (λ c κs. let e = c.before.before.before.before.before.before.before in
     let f = figures-small (start e.before) (place e) (some e) in
     (f.0, omega (arith, last-small e, counts-small (start e.before)), f.1))
-    (λ c. search needs)
+    (λ c. search rules)
     returns)

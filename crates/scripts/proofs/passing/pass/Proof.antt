@@ -1,6 +1,6 @@
 -- `scripts::passing::pass` meets its contract: before a turn the first i counts keep the figures, and the sums are those of the ticks and
 -- these counts. Assumes nothing.
-use Rattle.laws.proofs.Base.{◌+◌, ◌-◌, ◌≤◌, ◌≡◌, refl, ◌∙◌, subst, arith, needs, length}
+use Rattle.laws.proofs.Base.{◌+◌, ◌-◌, ◌≤◌, ◌≡◌, refl, ◌∙◌, subst, arith, rules, length}
 use Rattle.scripts.specs.Steps.{Placed, KeepFirst}
 use Rattle.scripts.proofs.Keeping.{placed_same, Passing, passing_none, passing_placed, passing_later, passing_length, passing_more}
 use Rattle.scripts.proofs.Keeping.{passing_kept, passing_rest}
@@ -93,39 +93,39 @@ pass_spec =
     (tie.spec
     invariant-loop
     decreases-loop
-    (λ c. search needs)
-    (λ c. search needs)
+    (λ c. search rules)
+    (λ c. search rules)
     loop-holds
-    (λ c. search needs)
-    (λ c. search needs)
-    (λ c. search needs)
-    (λ c. search needs)
+    (λ c. search rules)
+    (λ c. search rules)
+    (λ c. search rules)
+    (λ c. search rules)
     pass-on-requires
     (λ c. omega (arith, (rest c.before.before).0))
-    (λ c. search needs)
+    (λ c. search rules)
     (λ c. rest c.before.before)
-    (λ c. search needs)
-    (λ c. search needs)
-    (λ c. search needs)
+    (λ c. search rules)
+    (λ c. search rules)
+    (λ c. search rules)
     (λ c. passed c.before.before.before.before)
-    (λ c. search needs)
-    (λ c. search needs)
-    (λ c. search needs)
-    (λ c. search needs)
-    (λ c. search needs)
-    (λ c. search needs)
-    (λ c. search needs)
-    (λ c. search needs)
-    (λ c. search needs)
-    (λ c. search needs)
-    (λ c. search needs)
-    (λ c. search needs)
+    (λ c. search rules)
+    (λ c. search rules)
+    (λ c. search rules)
+    (λ c. search rules)
+    (λ c. search rules)
+    (λ c. search rules)
+    (λ c. search rules)
+    (λ c. search rules)
+    (λ c. search rules)
+    (λ c. search rules)
+    (λ c. search rules)
+    (λ c. search rules)
     grow-requires
-    (λ c. search needs)
+    (λ c. search rules)
     (λ c. passed (tested c.before.before.before).before)
-    (λ c. search needs)
-    (λ c. search needs)
+    (λ c. search rules)
+    (λ c. search rules)
     (λ c. omega (arith, (tested c.before.before.before).loop-test.taken))
     loop-again
-    (λ c. search needs)
+    (λ c. search rules)
     (λ c. passed c.before))

@@ -1,6 +1,6 @@
 -- `scripts::passing::pass_on` meets its contract: before a turn the first i counts keep the figures after any ticks that have the sums.
 -- Assumes nothing.
-use Rattle.laws.proofs.Base.{ℕ, ◌+◌, ◌-◌, ◌≤◌, ◌<◌, ◌≡◌, refl, true, ◌&&◌, ◌∙◌, subst, List, arith, needs, length, get_or}
+use Rattle.laws.proofs.Base.{ℕ, ◌+◌, ◌-◌, ◌≤◌, ◌<◌, ◌≡◌, refl, true, ◌&&◌, ◌∙◌, subst, List, arith, rules, length, get_or}
 use borrow.Author.Tests.{not-false}
 use lib.Dec.{leb}
 use Rattle.laws.proofs.Tests.{told_yes, both_told, leb_told}
@@ -118,29 +118,29 @@ pass-on-spec =
     invariant-loop
     decreases-loop
     loop-holds
-    (λ c. search needs)
-    (λ c. search needs)
-    (λ c. search needs)
-    (λ c. search needs)
-    (λ c. search needs)
-    (λ c. search needs)
-    (λ c. search needs)
+    (λ c. search rules)
+    (λ c. search rules)
+    (λ c. search rules)
+    (λ c. search rules)
+    (λ c. search rules)
+    (λ c. search rules)
+    (λ c. search rules)
     (λ c. passed (head c.before))
     grow-twice-requires
-    (λ c. search needs)
+    (λ c. search rules)
     (λ c. passed (head c.before.before.before.before.before.before))
-    (λ c. search needs)
-    (λ c. search needs)
+    (λ c. search rules)
+    (λ c. search rules)
     loop-again
-    (λ c. search needs)
+    (λ c. search rules)
     (λ c. passed c.before.before)
-    (λ c. search needs)
-    (λ c. search needs)
-    (λ c. search needs)
+    (λ c. search rules)
+    (λ c. search rules)
+    (λ c. search rules)
     (λ c. passed c.before.before.before.before)
     grow-requires
-    (λ c. search needs)
+    (λ c. search rules)
     (λ c. passed c.before.before.before.before.before.before.before.before.before)
-    (λ c. search needs)
-    (λ c. search needs)
+    (λ c. search rules)
+    (λ c. search rules)
     returns-6)

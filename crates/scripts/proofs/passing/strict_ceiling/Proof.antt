@@ -1,6 +1,6 @@
 -- `scripts::passing::strict_ceiling` meets its contract: where there are ceilings it gives back the lower of two ceilings.
 -- Assumes nothing.
-use Rattle.laws.proofs.Base.{◌≡◌, ap, false, arith, needs}
+use Rattle.laws.proofs.Base.{◌≡◌, ap, false, arith, rules}
 use Rattle.scripts.specs.Steps.{strict_ceiling}
 use Rattle.scripts.proofs.passing.strict_ceiling.Statement.{statement}
 use Rattle.scripts.proofs.passing.strict_ceiling.Tie as tie
@@ -13,6 +13,6 @@ pub strict-ceiling-spec : {M : Type 1} → statement M
 strict-ceiling-spec =
     tie.close
     (tie.spec
-    (λ c. search needs)
+    (λ c. search rules)
     (λ c. omega (arith, limited c.before))
     (λ c. omega (arith, limited c.before)))

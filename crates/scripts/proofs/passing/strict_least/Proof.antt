@@ -1,6 +1,6 @@
 -- `scripts::passing::strict_least` meets its contract: where there are ceilings it gives back the higher of two leasts.
 -- Assumes nothing.
-use Rattle.laws.proofs.Base.{◌≡◌, ap, false, arith, needs}
+use Rattle.laws.proofs.Base.{◌≡◌, ap, false, arith, rules}
 use Rattle.scripts.specs.Steps.{strict_least}
 use Rattle.scripts.proofs.passing.strict_least.Statement.{statement}
 use Rattle.scripts.proofs.passing.strict_least.Tie as tie
@@ -13,6 +13,6 @@ pub strict-least-spec : {M : Type 1} → statement M
 strict-least-spec =
     tie.close
     (tie.spec
-    (λ c. search needs)
+    (λ c. search rules)
     (λ c. omega (arith, limited c.before))
     (λ c. omega (arith, limited c.before)))

@@ -1,6 +1,6 @@
 -- `scripts::passing::turn_ceilings` meets its contract: before a turn the first i places have the ceilings of the i longest windows.
 -- Assumes nothing.
-use Rattle.laws.proofs.Base.{◌-◌, ◌≤◌, ◌≡◌, refl, ◌∙◌, arith, needs, length}
+use Rattle.laws.proofs.Base.{◌-◌, ◌≤◌, ◌≡◌, refl, ◌∙◌, arith, rules, length}
 use Rattle.laws.proofs.Table.{Filled, unfilled, stored}
 use Rattle.scripts.specs.Steps.{strict_ceiling}
 use Rattle.scripts.proofs.Growing.{strict_from, strict_from_lem, strict_all}
@@ -20,7 +20,7 @@ loop-again c =
     let s = turn.before.before.before.before in
     let args = s.args in (
       omega arith,
-      search needs,
+      search rules,
       stored turn.loop.invariant.2 _ (omega (arith, s.requires.0))
           (c.strict-ceiling.ensures ∙ strict_from_lem (strict_ceiling args.unlimited) args.upper.now args.closed-upper.now turn.loop.i),
     )
@@ -38,19 +38,19 @@ turn-ceilings-spec =
     invariant-loop
     decreases-loop
     (λ c. (omega arith, refl, unfilled _ _))
-    (λ c. search needs)
-    (λ c. search needs)
-    (λ c. search needs)
-    (λ c. search needs)
-    (λ c. search needs)
-    (λ c. search needs)
-    (λ c. search needs)
-    (λ c. search needs)
-    (λ c κs. search needs)
-    (λ c. search needs)
-    (λ c. search needs)
-    (λ c. search needs)
-    (λ c. search needs)
+    (λ c. search rules)
+    (λ c. search rules)
+    (λ c. search rules)
+    (λ c. search rules)
+    (λ c. search rules)
+    (λ c. search rules)
+    (λ c. search rules)
+    (λ c. search rules)
+    (λ c κs. search rules)
+    (λ c. search rules)
+    (λ c. search rules)
+    (λ c. search rules)
+    (λ c. search rules)
     loop-again
-    (λ c. search needs)
+    (λ c. search rules)
     returns)

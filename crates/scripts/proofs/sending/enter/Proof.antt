@@ -1,6 +1,6 @@
 -- `scripts::sending::enter` meets its contract: before a turn the first i sums are the next ones plus the count, and the limits stand for
 -- their windows. Assumes nothing.
-use Rattle.laws.proofs.Base.{◌+◌, ◌-◌, ◌≤◌, ◌<◌, min, max, ◌≡◌, refl, ap, ◌∙◌, arith, needs, length, get_or}
+use Rattle.laws.proofs.Base.{◌+◌, ◌-◌, ◌≤◌, ◌<◌, min, max, ◌≡◌, refl, ap, ◌∙◌, arith, rules, length, get_or}
 use Rattle.laws.proofs.Table.{Filled, unfilled, stored, later}
 use Rattle.scripts.specs.Steps.{Narrowed}
 use Rattle.scripts.proofs.Narrowing.{narrowed_none, narrowed_more, Turn, turn_at, entered_all}
@@ -59,7 +59,7 @@ loop-again c =
     let k = known head (omega arith) in
     let e = sum-found head in (
       omega arith,
-      search needs,
+      search rules,
       stored head.loop.invariant.2 _ (omega (arith, (start head).requires.sums_more)) e,
       narrowed_more _ _ _ _ _ head.loop.i _ _ head.loop.invariant.3 _ _ (omega arith)
           (c.before.before.larger.ensures ∙ ap (λ s. max head.loop.lo (get_or args.leasts.now head.loop.i 0 - s)) e)
@@ -79,22 +79,22 @@ enter_spec =
     invariant-loop
     decreases-loop
     (λ c. (omega arith, refl, unfilled _ _, narrowed_none _ _ _ _ _))
-    (λ c. search needs)
-    (λ c. search needs)
+    (λ c. search rules)
+    (λ c. search rules)
     (λ c. omega (arith, (start c.before.before).pre.sums_more))
     add-sum-2
-    (λ c. search needs)
-    (λ c. search needs)
-    (λ c. search needs)
-    (λ c. search needs)
+    (λ c. search rules)
+    (λ c. search rules)
+    (λ c. search rules)
+    (λ c. search rules)
     sub-larger
     larger-requires
-    (λ c. search needs)
-    (λ c. search needs)
+    (λ c. search rules)
+    (λ c. search rules)
     sub-smaller
     smaller-requires
-    (λ c. search needs)
-    (λ c. search needs)
+    (λ c. search rules)
+    (λ c. search rules)
     loop-again
-    (λ c. search needs)
+    (λ c. search rules)
     returns)

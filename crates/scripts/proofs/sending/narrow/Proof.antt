@@ -1,6 +1,6 @@
 -- `scripts::sending::narrow` meets its contract: before a turn the limits stand for the windows of up to d + 1 ticks.
 -- Assumes nothing.
-use Rattle.laws.proofs.Base.{ℕ, ◌+◌, ◌-◌, ◌≤◌, ◌<◌, ◌≡◌, List, arith, needs, length, get_or}
+use Rattle.laws.proofs.Base.{ℕ, ◌+◌, ◌-◌, ◌≤◌, ◌<◌, ◌≡◌, List, arith, rules, length, get_or}
 use Rattle.scripts.specs.Steps.{Narrowed}
 use Rattle.scripts.proofs.Narrowing.{narrowed_none, narrowed_more, Turn, turn_at, ready_first, sum_small}
 use Rattle.scripts.proofs.sending.narrow.Statement.{statement}
@@ -77,29 +77,29 @@ narrow-spec =
     (tie.spec
     invariant-loop
     decreases-loop
-    (λ c. search needs)
-    (λ c. search needs)
-    (λ c. search needs)
-    (λ c. search needs)
-    (λ c. search needs)
-    (λ c. search needs)
+    (λ c. search rules)
+    (λ c. search rules)
+    (λ c. search rules)
+    (λ c. search rules)
+    (λ c. search rules)
+    (λ c. search rules)
     (λ c. (omega arith, narrowed_none _ _ _ _ _))
-    (λ c. search needs)
-    (λ c. search needs)
-    (λ c. search needs)
-    (λ c. search needs)
-    (λ c. search needs)
-    (λ c. search needs)
-    (λ c. search needs)
-    (λ c. search needs)
+    (λ c. search rules)
+    (λ c. search rules)
+    (λ c. search rules)
+    (λ c. search rules)
+    (λ c. search rules)
+    (λ c. search rules)
+    (λ c. search rules)
+    (λ c. search rules)
     sub-larger-3
     larger-requires
-    (λ c. search needs)
-    (λ c. search needs)
-    (λ c. search needs)
-    (λ c. search needs)
+    (λ c. search rules)
+    (λ c. search rules)
+    (λ c. search rules)
+    (λ c. search rules)
     sub-smaller-3
     smaller-requires
-    (λ c. search needs)
+    (λ c. search rules)
     loop-again
     returns)

@@ -1,6 +1,6 @@
 -- `scripts::sending::raise` meets its contract: before a turn the first i places have the figures of the i longest windows, raised.
 -- Assumes nothing.
-use Rattle.laws.proofs.Base.{◌+◌, ◌-◌, ◌≤◌, ◌≡◌, refl, ap, arith, needs, length}
+use Rattle.laws.proofs.Base.{◌+◌, ◌-◌, ◌≤◌, ◌≡◌, refl, ap, arith, rules, length}
 use Rattle.laws.proofs.Table.{Filled, unfilled, stored}
 use Rattle.scripts.specs.Steps.{sum_limit}
 use Rattle.scripts.proofs.Adding.{from_last_lem}
@@ -24,7 +24,7 @@ loop-again c =
     let turn = c.before.before in
     let figures = turn.before.args.figures.now in (
       omega arith,
-      search needs,
+      search rules,
       stored turn.loop.invariant.2 _ (omega arith) (ap (λ x. x + sum_limit) (from_last_lem figures turn.loop.i)),
     )
 
@@ -41,15 +41,15 @@ raise-spec =
     invariant-loop
     decreases-loop
     (λ c. (omega arith, refl, unfilled _ _))
-    (λ c. search needs)
-    (λ c. search needs)
-    (λ c. search needs)
-    (λ c. search needs)
+    (λ c. search rules)
+    (λ c. search rules)
+    (λ c. search rules)
+    (λ c. search rules)
     add-raised
-    (λ c. search needs)
-    (λ c. search needs)
-    (λ c. search needs)
-    (λ c. search needs)
+    (λ c. search rules)
+    (λ c. search rules)
+    (λ c. search rules)
+    (λ c. search rules)
     loop-again
-    (λ c. search needs)
+    (λ c. search rules)
     returns)

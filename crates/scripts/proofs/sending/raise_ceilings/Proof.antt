@@ -1,6 +1,6 @@
 -- `scripts::sending::raise_ceilings` meets its contract: the mark decides.
 -- Assumes nothing.
-use Rattle.laws.proofs.Base.{subst, needs, length}
+use Rattle.laws.proofs.Base.{subst, rules, length}
 use Rattle.scripts.specs.Steps.{LowFigures, ceilings_from}
 use Rattle.scripts.proofs.Raising.{raised_any}
 use Rattle.scripts.proofs.sending.raise_ceilings.Statement.{statement}
@@ -10,7 +10,7 @@ raise-requires : tie.Need-raise-requires
 raise-requires c κs =
     let start = c.before.before.before.before in
     let us = start.args.upper.now in
-    (search needs, subst (λ b. LowFigures (length us) (ceilings_from b us)) c.before.if1.false start.requires.1)
+    (search rules, subst (λ b. LowFigures (length us) (ceilings_from b us)) c.before.if1.false start.requires.1)
 
 returns : tie.Need-returns
 returns c =
@@ -25,9 +25,9 @@ pub raise-ceilings-spec : {M : Type 1} → statement M
 raise-ceilings-spec =
     tie.close
     (tie.spec
-    (λ c κs. search needs)
+    (λ c κs. search rules)
     raise-requires
-    (λ c. search needs)
+    (λ c. search rules)
     returns
-    (λ c. search needs)
+    (λ c. search rules)
     returns-2)

@@ -1,6 +1,6 @@
 -- `scripts::sending::raise_none` meets its contract: before a turn the first i places have the figure that binds nothing.
 -- Assumes nothing.
-use Rattle.laws.proofs.Base.{◌+◌, ◌-◌, ◌≤◌, ◌≡◌, refl, arith, needs, length}
+use Rattle.laws.proofs.Base.{◌+◌, ◌-◌, ◌≤◌, ◌≡◌, refl, arith, rules, length}
 use Rattle.laws.proofs.Table.{Filled, unfilled, stored}
 use Rattle.scripts.specs.Steps.{sum_limit, no_ceiling}
 use Rattle.scripts.proofs.Raising.{raised_none}
@@ -15,7 +15,7 @@ decreases-loop raised₀ last i₀ raised i = last - i
 
 loop-again : tie.Need-loop-preserved invariant-loop decreases-loop
 loop-again c =
-    let turn = c.before in (omega arith, search needs, stored turn.loop.invariant.2 _ (omega arith) refl)
+    let turn = c.before in (omega arith, search rules, stored turn.loop.invariant.2 _ (omega arith) refl)
 
 returns : tie.Need-returns invariant-loop decreases-loop
 returns c =
@@ -30,16 +30,16 @@ raise-none-spec =
     (tie.spec
     invariant-loop
     decreases-loop
-    (λ c. search needs)
+    (λ c. search rules)
     (λ c. (omega arith, refl, unfilled _ _))
-    (λ c. search needs)
-    (λ c. search needs)
-    (λ c. search needs)
-    (λ c. search needs)
-    (λ c. search needs)
+    (λ c. search rules)
+    (λ c. search rules)
+    (λ c. search rules)
+    (λ c. search rules)
+    (λ c. search rules)
     loop-again
-    (λ c. search needs)
-    (λ c. search needs)
-    (λ c. search needs)
-    (λ c. search needs)
+    (λ c. search rules)
+    (λ c. search rules)
+    (λ c. search rules)
+    (λ c. search rules)
     returns)

@@ -1,6 +1,6 @@
 -- `scripts::sending::send` meets its contract: where the sums are kept, they lead to the first limits.
 -- Assumes nothing.
-use Rattle.laws.proofs.Base.{◌-◌, ◌≡◌, ap, ◌∙◌, arith, needs, length, get_or}
+use Rattle.laws.proofs.Base.{◌-◌, ◌≡◌, ap, ◌∙◌, arith, rules, length, get_or}
 use borrow.Author.Tests.{not-false}
 use Rattle.scripts.proofs.Choosing.{sends_none}
 use Rattle.scripts.proofs.sending.send.Statement.{statement}
@@ -29,10 +29,10 @@ send-spec =
     tie.close
     (tie.spec
     add-up-requires
-    (λ c. search needs)
+    (λ c. search rules)
     returns
     narrow-requires
-    (λ c κs. search needs)
-    (λ c. search needs)
-    (λ c. search needs)
-    (λ c. search needs))
+    (λ c κs. search rules)
+    (λ c. search rules)
+    (λ c. search rules)
+    (λ c. search rules))

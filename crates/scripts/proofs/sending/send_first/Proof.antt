@@ -1,6 +1,6 @@
 -- `scripts::sending::send_first` meets its contract: the raised figures are those of the pair, and stand at the front of the arrays.
 -- Assumes nothing.
-use Rattle.laws.proofs.Base.{ℕ, ◌+◌, ◌-◌, ◌≤◌, ◌≡◌, sym, ◌∙◌, subst, List, arith, needs, length, get_or, take, drop, replicate}
+use Rattle.laws.proofs.Base.{ℕ, ◌+◌, ◌-◌, ◌≤◌, ◌≡◌, sym, ◌∙◌, subst, List, arith, rules, length, get_or, take, drop, replicate}
 use Rattle.scripts.specs.Steps.{LowFigures, RaisedFrom, ceilings_from}
 use Rattle.scripts.proofs.Raising.{low_ceilings, low_leasts, figures_raised, front_length, front_room, front_count}
 use Rattle.scripts.proofs.Raising.{front_raised, front_more}
@@ -80,15 +80,15 @@ pub send-first-spec : {M : Type 1} → statement M
 send-first-spec =
     tie.close
     (tie.spec
-    (λ c κs. search needs)
-    (λ c κs. search needs)
-    (λ c κs. search needs)
-    (λ c. search needs)
+    (λ c κs. search rules)
+    (λ c κs. search rules)
+    (λ c κs. search rules)
+    (λ c. search rules)
     (λ c.
     let s = c.before.before.before.before.before.before.before.before.before in
     sym (room s (h s) 256 _ (omega arith) c.before.before.before.zeros.ensures (omega arith)))
     raise-ceilings-requires
-    (λ c. search needs)
+    (λ c. search rules)
     (λ c.
     let s = c.before.before.before.before.before.before.before.before.before.before.before.before in
     sym (room s (h s) 256 _ (omega arith) c.before.before.before.before.before.zeros2.ensures (omega arith)))
@@ -107,12 +107,12 @@ send-first-spec =
     let raised = c.before.before.before in
     let s = raised.before.before.before.before.before.before.before.before.before.before.before.before.before in
     front_count _ raised.raise.new.1.0 (behind-leasts raised) (leasts-of s _ raised.raise.ensures).whole)
-    (λ c. search needs)
-    (λ c. search needs)
+    (λ c. search rules)
+    (λ c. search rules)
     (λ c.
     let made = c.before.before.before.before.before.before.before.before.before in
     let s = made.before.before.before.before.before.before.before.before in
     sym (room s (h s + 1) 257 _ (omega arith) made.no-sums.ensures (omega arith)))
     send-requires
-    (λ c. search needs)
+    (λ c. search rules)
     returns)

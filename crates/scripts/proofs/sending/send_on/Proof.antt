@@ -1,6 +1,6 @@
 -- `scripts::sending::send_on` meets its contract: before a turn the choices before it are sent, and all is ready for the next tick.
 -- Assumes nothing.
-use Rattle.laws.proofs.Base.{ℕ, ◌-◌, ◌≤◌, ◌<◌, max, ◌≡◌, refl, arith, needs, length, get_or}
+use Rattle.laws.proofs.Base.{ℕ, ◌-◌, ◌≤◌, ◌<◌, max, ◌≡◌, refl, arith, rules, length, get_or}
 use borrow.Author.Count.{falls}
 use Rattle.scripts.specs.Steps.{sum_limit, Signed}
 use Rattle.scripts.proofs.Narrowing.{lo_raised, hi_signed, sum_of_all_small}
@@ -53,12 +53,12 @@ add-count-2 c =
 
 mul-enter-2 : tie.Need-overflow-mul-enter-2 invariant-loop decreases-loop
 mul-enter-2 c =
-    let p = (placed c.before.before.before.before.before.before.before _ c.before.place-before.ensures).3 in search needs
+    let p = (placed c.before.before.before.before.before.before.before _ c.before.place-before.ensures).3 in search rules
 
 mul-enter-3 : tie.Need-overflow-mul-enter-3 invariant-loop decreases-loop
 mul-enter-3 c =
     let p = (placed c.before.before.before.before.before.before.before.before _ c.before.before.place-before.ensures).3 in
-    search needs
+    search rules
 
 enter-requires : tie.Need-enter-requires invariant-loop decreases-loop
 enter-requires c κs =
@@ -90,46 +90,46 @@ send-on-spec =
     (tie.spec
     invariant-loop
     decreases-loop
-    (λ c. search needs)
-    (λ c. search needs)
-    (λ c. search needs)
-    (λ c. search needs)
-    (λ c. search needs)
-    (λ c. search needs)
-    (λ c. search needs)
+    (λ c. search rules)
+    (λ c. search rules)
+    (λ c. search rules)
+    (λ c. search rules)
+    (λ c. search rules)
+    (λ c. search rules)
+    (λ c. search rules)
     loop-holds
-    (λ c. search needs)
-    (λ c. search needs)
+    (λ c. search rules)
+    (λ c. search rules)
     (λ c. sends_all _ _ _ _ _ _ _ _ _ _ _ c.before.before.loop.invariant)
     (λ c. low c.before.before)
-    (λ c. search needs)
-    (λ c. search needs)
+    (λ c. search rules)
+    (λ c. search rules)
     (λ c. omega (arith, high c.before.before.before))
-    (λ c. search needs)
+    (λ c. search rules)
     add-count-2
-    (λ c. search needs)
-    (λ c. search needs)
+    (λ c. search rules)
+    (λ c. search rules)
     (λ c. small c.before.before.before.before)
-    (λ c. search needs)
-    (λ c. search needs)
+    (λ c. search rules)
+    (λ c. search rules)
     (λ c. sends_all _ _ _ _ _ _ _ _ _ _ _ c.before.before.before.before.before.loop.invariant)
-    (λ c. search needs)
-    (λ c. search needs)
-    (λ c. search needs)
-    (λ c κs. search needs)
-    (λ c. search needs)
-    (λ c. search needs)
-    (λ c. search needs)
-    (λ c. search needs)
-    (λ c. search needs)
+    (λ c. search rules)
+    (λ c. search rules)
+    (λ c. search rules)
+    (λ c κs. search rules)
+    (λ c. search rules)
+    (λ c. search rules)
+    (λ c. search rules)
+    (λ c. search rules)
+    (λ c. search rules)
     (λ c. (placed c.before.before.before.before.before.before.before _ c.before.place-before.ensures).0)
-    (λ c. search needs)
+    (λ c. search rules)
     mul-enter-2
     (λ c. (placed c.before.before.before.before.before.before.before _ c.before.place-before.ensures).2)
     (λ c. (placed c.before.before.before.before.before.before.before _ c.before.place-before.ensures).2)
-    (λ c. search needs)
+    (λ c. search rules)
     (λ c. (placed c.before.before.before.before.before.before.before.before _ c.before.before.place-before.ensures).0)
-    (λ c. search needs)
+    (λ c. search rules)
     mul-enter-3
     (λ c. (placed c.before.before.before.before.before.before.before.before _ c.before.before.place-before.ensures).2)
     (λ c. (placed c.before.before.before.before.before.before.before.before _ c.before.before.place-before.ensures).2)
@@ -141,6 +141,6 @@ send-on-spec =
     let turn = c.before.before.before.before.before.before.before.before.before.before.before in
     falls (length (start turn.before).args.choices.now) turn.before.loop.i turn.loop-test.true)
     loop-again
-    (λ c. search needs)
-    (λ c. search needs)
+    (λ c. search rules)
+    (λ c. search rules)
     (λ c. sends_all _ _ _ _ _ _ _ _ _ _ _ c.before.loop.invariant))

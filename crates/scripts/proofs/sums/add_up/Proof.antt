@@ -1,6 +1,6 @@
 -- `scripts::sums::add_up` meets its contract: before a turn the sums of up to d ticks are kept, and `sum` is the last of them.
 -- Assumes nothing.
-use Rattle.laws.proofs.Base.{ℕ, ◌-◌, ◌≤◌, ◌≡◌, refl, subst, arith, needs, length}
+use Rattle.laws.proofs.Base.{ℕ, ◌-◌, ◌≤◌, ◌≡◌, refl, subst, arith, rules, length}
 use Rattle.curves.specs.Ticks.{last}
 use Rattle.curves.proofs.NextTick.{last_none}
 use Rattle.scripts.specs.Steps.{sum_limit, KeptSums}
@@ -19,7 +19,7 @@ loop-holds : tie.Need-loop-init invariant-loop decreases-loop
 loop-holds c = (omega arith, refl, omega arith, omega (arith, last_none c.args.ticks.now), kept_none _ _ c.requires.1)
 
 returns : tie.Need-returns invariant-loop decreases-loop
-returns c = (search needs, λ e. let z : ◌≡◌ {A = ℕ} 0 1 = cc in absurd (omega arith))
+returns c = (search rules, λ e. let z : ◌≡◌ {A = ℕ} 0 1 = cc in absurd (omega arith))
 
 loop-again : tie.Need-loop-preserved invariant-loop decreases-loop
 loop-again c =
@@ -28,7 +28,7 @@ loop-again c =
     let inv = turn.loop.invariant in
     let more = sum_more ticks turn.loop.d turn.loop.sum (omega arith) inv.3 in (
       omega arith,
-      search needs,
+      search rules,
       omega arith,
       more,
       kept_more ticks _ turn.loop.d _ _ (omega arith) (omega arith) inv.4 more (omega arith),
@@ -39,7 +39,7 @@ returns-2 c =
     let end = c.before.loop in
     let ticks = c.before.before.args.ticks.now in
     let all : end.d ≡ length ticks = omega arith in
-    (search needs, λ e. subst (λ k. KeptSums ticks k end.sums) all end.invariant.4)
+    (search rules, λ e. subst (λ k. KeptSums ticks k end.sums) all end.invariant.4)
 
 pub add-up-spec : {M : Type 1} → statement M
 add-up-spec =
@@ -47,21 +47,21 @@ add-up-spec =
     (tie.spec
     invariant-loop
     decreases-loop
-    (λ c. search needs)
+    (λ c. search rules)
     loop-holds
-    (λ c. search needs)
-    (λ c. search needs)
-    (λ c. search needs)
-    (λ c. search needs)
-    (λ c. search needs)
-    (λ c. search needs)
+    (λ c. search rules)
+    (λ c. search rules)
+    (λ c. search rules)
+    (λ c. search rules)
+    (λ c. search rules)
+    (λ c. search rules)
     returns
-    (λ c. search needs)
-    (λ c. search needs)
-    (λ c. search needs)
-    (λ c. search needs)
-    (λ c. search needs)
-    (λ c. search needs)
+    (λ c. search rules)
+    (λ c. search rules)
+    (λ c. search rules)
+    (λ c. search rules)
+    (λ c. search rules)
+    (λ c. search rules)
     loop-again
-    (λ c. search needs)
+    (λ c. search rules)
     returns-2)

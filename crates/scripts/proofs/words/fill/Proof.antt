@@ -1,5 +1,5 @@
 -- `scripts::words::fill` meets its contract: before a turn the entries before i are the number. Assumes nothing.
-use Rattle.laws.proofs.Base.{◌-◌, ◌≤◌, ◌≡◌, refl, ◌++◌, arith, needs, length, drop, replicate}
+use Rattle.laws.proofs.Base.{◌-◌, ◌≤◌, ◌≡◌, refl, ◌++◌, arith, rules, length, drop, replicate}
 use Rattle.scripts.proofs.Worded.{filled_turn, filled_end}
 use Rattle.scripts.proofs.words.fill.Statement.{statement}
 use Rattle.scripts.proofs.words.fill.Tie as tie
@@ -14,7 +14,7 @@ loop-again : tie.Need-loop-preserved invariant-loop decreases-loop
 loop-again c =
     let head = c.before.loop in
     let inside = c.loop-test.true in
-    (omega (arith, inside, head.invariant.1), search needs, filled_turn _ _ _ head.i (omega (arith, inside, head.invariant.1)) head.invariant.2)
+    (omega (arith, inside, head.invariant.1), search rules, filled_turn _ _ _ head.i (omega (arith, inside, head.invariant.1)) head.invariant.2)
 
 returns : tie.Need-returns invariant-loop decreases-loop
 returns c =
@@ -28,10 +28,10 @@ fill_spec =
     invariant-loop
     decreases-loop
     (λ c. (omega arith, refl, refl))
-    (λ c. search needs)
-    (λ c. search needs)
-    (λ c. search needs)
-    (λ c. search needs)
+    (λ c. search rules)
+    (λ c. search rules)
+    (λ c. search rules)
+    (λ c. search rules)
     loop-again
-    (λ c. search needs)
+    (λ c. search rules)
     returns)

@@ -1,7 +1,7 @@
 -- Text that is put together from records and fields splits into the same again. Assumes nothing.
 use Rattle.laws.proofs.Base.{◌≡◌, refl, ap, [], ◌∷◌, ◌++◌, ne_eqb}
 use Rattle.laws.specs.Tests.{Each}
-use Rattle.csv.specs.Text.{Bytes, comma, cr, crlf, on_first, records, fields}
+use Rattle.csv_text.specs.Text.{Bytes, comma, cr, crlf, on_first, records, fields}
 
 -- A record without CR, ended by CR LF.
 pub records_join : (r s : Bytes) → Each (λ b. ¬ (b ≡ cr)) r → records (r ++ crlf ++ s) ≡ r ∷ records s

@@ -5,8 +5,8 @@ use Prim.Native.Nat.{◌/◌}
 use native.Mathlib.Nat.{pow-suc}
 use Rattle.laws.specs.Tests.{Each}
 use Rattle.laws.proofs.Tests.{each_append}
-use Rattle.csv.specs.Text.{Bytes}
-use Rattle.csv.specs.Numbers.{Digit, Numeral, value_after, value, last_digits, decimal}
+use Rattle.csv_text.specs.Text.{Bytes}
+use Rattle.csv_text.specs.Numbers.{Digit, Numeral, value_after, value, last_digits, decimal}
 
 -- ---- a digit, or those of the tenth and one more
 pub digits_small : (k n : ℕ) → n < 10 → last_digits (suc k) n ≡ (48 + n) ∷ []

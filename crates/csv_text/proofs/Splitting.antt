@@ -4,7 +4,7 @@ use Rattle.laws.proofs.Base.{ℕ, suc, ◌+◌, ◌-◌, ◌≤◌, ◌<◌, ◌
 use Rattle.laws.proofs.Base.{append_assoc, ◌⊎◌, inl, inr}
 use Rattle.laws.proofs.Base.{append-nil, dec_and, ℕ_discrete, le_refl, sub-zero, add-one, arith, eq-eqb, ne_eqb, eqb-true, eqb, length}
 use Rattle.laws.proofs.Base.{get_or, take, drop, length-drop, drop_of_length-le, drop-cons, take-suc, take_all}
-use Rattle.csv.specs.Text.{Bytes, comma, cr, lf, on_first, records, fields}
+use Rattle.csv_text.specs.Text.{Bytes, comma, cr, lf, on_first, records, fields}
 
 -- The rest of a text, as a slice is cut.
 pub rest_is : (s : Bytes) (k : ℕ) → take (length s - k) (drop k s) ≡ drop k s

@@ -1,8 +1,8 @@
 -- The definitions compute: texts split, fields read, numbers written. Assumes nothing.
 use Rattle.laws.proofs.Base.{◌≡◌, refl, [], ◌∷◌, ◌++◌}
-use Rattle.csv.specs.Text.{comma, cr, lf, crlf, records, fields}
-use Rattle.csv.specs.Numbers.{value_after, value, last_digits, decimal}
-use Rattle.csv.specs.Records.{constraint, constraint_of, none, up_to}
+use Rattle.csv_text.specs.Text.{comma, cr, lf, crlf, records, fields}
+use Rattle.csv_text.specs.Numbers.{value_after, value, last_digits, decimal}
+use Rattle.csv_text.specs.Records.{constraint, constraint_of, none, up_to}
 
 -- Two records; CR LF after the last or not.
 two : records ((65 ∷ []) ++ crlf ++ (66 ∷ [])) ≡ (65 ∷ []) ∷ (66 ∷ []) ∷ []

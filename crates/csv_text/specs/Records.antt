@@ -1,8 +1,8 @@
 -- A record of constraint text, and the constraint (triple) that it spells (document 01, "Triples as CSV text").
 use Rattle.std.specs.Prelude.{ℕ, ◌≤◌, ◌≡◌, Bool, true, false, [], ◌∷◌, ◌⊎◌, length, get_or}
 use Rattle.bounds.specs.Bounds.{max_horizon}
-use Rattle.csv.specs.Text.{Bytes, records, fields}
-use Rattle.csv.specs.Numbers.{Numeral, value}
+use Rattle.csv_text.specs.Text.{Bytes, records, fields}
+use Rattle.csv_text.specs.Numbers.{Numeral, value}
 
 -- The most of a constraint, which may be missing (request P7).
 pub data Most : Type 0 where

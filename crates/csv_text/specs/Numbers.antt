@@ -1,7 +1,7 @@
 -- Decimal numbers as text (document 01, "Triples as CSV text" and "The figures program").
 use Rattle.std.specs.Prelude.{ℕ, zero, suc, ◌+◌, ◌-◌, ◌*◌, ◌/◌, ◌%◌, ◌≤◌, ◌≡◌, cond, [], ◌∷◌, ◌++◌, ◌⊎◌, ltb, length, get_or}
 use Rattle.laws.specs.Tests.{Each}
-use Rattle.csv.specs.Text.{Bytes}
+use Rattle.csv_text.specs.Text.{Bytes}
 
 -- `0` is the byte 48, `9` is 57.
 abbrev pub Digit : ℕ → Type 0

@@ -2,9 +2,9 @@
 use Rattle.laws.proofs.Base.{ℕ, ◌≡◌, inl, inr, dec_and, dec_le, ℕ_discrete, [], ◌⊎◌, length, get_or}
 use Rattle.laws.proofs.Tests.{each?, equal_lists?}
 use Rattle.bounds.specs.Bounds.{max_horizon}
-use Rattle.csv.specs.Text.{Bytes, fields}
-use Rattle.csv.specs.Numbers.{Digit, Numeral}
-use Rattle.csv.specs.Records.{Most, none, up_to, MostWithin, Constraint, field, WellFormed, message_limit, InRange}
+use Rattle.csv_text.specs.Text.{Bytes, fields}
+use Rattle.csv_text.specs.Numbers.{Digit, Numeral}
+use Rattle.csv_text.specs.Records.{Most, none, up_to, MostWithin, Constraint, field, WellFormed, message_limit, InRange}
 
 unfoldable pub digit? : (b : ℕ) → Dec (Digit b)
 digit? b = dec_and (dec_le 48 b) (dec_le b 57)
