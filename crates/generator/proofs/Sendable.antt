@@ -1,6 +1,6 @@
 -- The counts that can be sent: those from the smallest to the largest; without ceilings the largest is 16,776,960, after any ticks.
 -- Assumes nothing.
-use Rattle.laws.proofs.Base.{ℕ, suc, ◌-◌, ◌≤◌, ◌≡◌, List, [], ◌∷◌, ◌↔◌, dec_le, arith, length}
+use Rattle.laws.proofs.Base.{ℕ, zero, suc, ◌-◌, ◌≤◌, ◌≡◌, List, [], ◌∷◌, ◌↔◌, dec_le, arith, length}
 use lib.ListN.{get_or-eq_default}
 use Rattle.laws.specs.Tests.{Each}
 use Rattle.laws.proofs.Tests.{each_append}
@@ -32,6 +32,7 @@ sendable_has_range (unlimited n ls) xs h x k = within_has_range (curves_of (unli
 module _ (h : ℕ) (ls xs : List ℕ) (small : FiguresWithin figure_limit ls) (counts : Each (λ x. x ≤ count_limit) xs) where
   least_small : (d : ℕ) → 1 ≤ d → figure 0 ls d ≤ figure_limit
   unfolding figure
+  least_small zero u = elim u [ ]
   least_small (suc d) u =
       elim (dec_le (suc d) (length ls)) [
         | yes l ↦ small (suc d) u l

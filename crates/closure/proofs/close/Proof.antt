@@ -26,7 +26,7 @@ module _ (s : tie.Start) where
   given = with_mark us ls s.args.unlimited
 
   abbrev found : Pair
-  found = pair_of s.args.closed-upper.now s.args.closed-lower.now
+  found = pair_of s.args.closed_upper.now s.args.closed_lower.now
 
   no-first : ¬ ((1 ≤ length us) × (length us ≤ max_horizon)) → ¬ (question1 given).asked
   no-first n = no_lengths_with us ls s.args.unlimited n
@@ -43,80 +43,80 @@ module _ (s : tie.Start) where
   third : RoomFor (length us) found → (question3 given found).asked
   third r = (room_with us ls found s.args.unlimited).0 r
 
-returns-3 : tie.Need-returns-3
+returns-3 : tie.Need-returns-then-lower-h
 returns-3 c =
     let s = c.before.before.before.before.before.before.before in
-    no_2 _ _ (first s (omega arith) (omega arith)) (λ y. c.if3.true ((even_with (us s) (ls s) s.args.unlimited).0 y))
+    no_2 _ _ (first s (omega arith) (omega arith)) (λ y. c.if-lower-h.true ((even_with (us s) (ls s) s.args.unlimited).0 y))
 
-returns-4 : tie.Need-returns-4
+returns-4 : tie.Need-returns-then-closed_upper-h
 returns-4 c =
     let s = c.before.before.before.before.before.before.before.before in
-    no_3 _ _ (first s (omega arith) (omega arith)) (second s (omega arith)) (no_third s (λ y. omega (arith, y.0, c.if4.true)))
+    no_3 _ _ (first s (omega arith) (omega arith)) (second s (omega arith)) (no_third s (λ y. omega (arith, y.0, c.if-closed_upper-h.true)))
 
-returns-5 : tie.Need-returns-5
+returns-5 : tie.Need-returns-then-closed_lower-h
 returns-5 c =
     let s = c.before.before.before.before.before.before.before.before.before in
-    no_3 _ _ (first s (omega arith) (omega arith)) (second s (omega arith)) (no_third s (λ y. omega (arith, y.1, c.if5.true)))
+    no_3 _ _ (first s (omega arith) (omega arith)) (second s (omega arith)) (no_third s (λ y. omega (arith, y.1, c.if-closed_lower-h.true)))
 
 -- ---- from where question 4 has been asked
-abbrev start : tie.After-all-within → tie.Start
+abbrev start : tie.After-all_within → tie.Start
 start k = k.before.before.before.before.before.before.before.before.before.before.before
 
-room : (k : tie.After-all-within) → RoomFor (length (us (start k))) (found (start k))
+room : (k : tie.After-all_within) → RoomFor (length (us (start k))) (found (start k))
 room k = (omega arith, omega arith)
 
-fourth : (k : tie.After-all-within) → Tells k.all-within.result (closing_question4 (given (start k))).asked
+fourth : (k : tie.After-all_within) → Tells k.all_within.result (closing_question4 (given (start k))).asked
 fourth k =
-    limit_with (us (start k)) (ls (start k)) (found (start k)) (start k).args.unlimited _ k.all-within.result
-    k.before.limit-for.ensures k.all-within.ensures
+    limit_with (us (start k)) (ls (start k)) (found (start k)) (start k).args.unlimited _ k.all_within.result
+    k.limit_for.ensures k.all_within.ensures
 
-returns-6 : tie.Need-returns-6
+returns-6 : tie.Need-returns-then-not-all_within
 returns-6 c =
     let s = start c.before in
     no_4 _ _ (first s (omega arith) (omega arith)) (second s (omega arith)) (third s (room c.before))
-    (told_no _ c.before.all-within.result c.if6.true (fourth c.before))
+    (told_no _ c.all_within.result c.if-not-all_within.true-raw (fourth c.before))
 
 -- ---- from where all four are answered yes
-abbrev asked : tie.Else6 → tie.After-all-within
+abbrev asked : tie.Else-not-all_within → tie.After-all_within
 asked e = e.before
 
-passes : (e : tie.Else6) → PassesFour (given (start (asked e))) (found (start (asked e)))
+passes : (e : tie.Else-not-all_within) → PassesFour (given (start (asked e))) (found (start (asked e)))
 passes e =
     let s = start (asked e) in
-    let bounded = told_yes _ (asked e).all-within.result e.if6.false (fourth (asked e)) in
+    let bounded = told_yes _ (asked e).all_within.result e.if-not-all_within.false-raw (fourth (asked e)) in
     (first s (omega arith) (omega arith), (second s (omega arith), (third s (room (asked e)), (bounded, tt))))
 
 -- The parts of the result lists that are lent are as long as the pair.
-part : (e : tie.Else6) (xs : List ℕ) → length (us (start (asked e))) ≤ length xs
+part : (e : tie.Else-not-all_within) (xs : List ℕ) → length (us (start (asked e))) ≤ length xs
     → length (us (start (asked e))) ≡ length (take (length (us (start (asked e)))) xs)
 part e xs h = sym (length-take-le (length (us (start (asked e)))) xs h)
 
-returns-7 : tie.Need-returns-7
+returns-7 : tie.Need-returns-then-unlimited
 returns-7 c =
     let ended = c.before.before in
     let e = ended.before.before.before in
     let s = start (asked e) in
-    let lowers = ended.to-end.auto.1.0 ∙ sym (part e _ (room (asked e)).1) in
-    leasts_ended_with (us s) (ls s) (found s) _ ended.before.before.if7.true (passes e) ended.to-end.new.1.0 lowers
-    ended.to-end.result ended.to-end.ensures
+    let lowers = ended.to_end.auto.1.0 ∙ sym (part e _ (room (asked e)).1) in
+    leasts_ended_with (us s) (ls s) (found s) _ ended.if-unlimited.true (passes e) ended.to_end.new.1.0 lowers
+    ended.to_end.result ended.to_end.ensures
 
-returns-8 : tie.Need-returns-8
+returns-8 : tie.Need-returns
 returns-8 c =
     let ended = c.before.before.before.before in
     let e = ended.before.before.before.before in
     let s = start (asked e) in
     let rest = room (asked e) in
-    let uppers = ended.to-end2.auto.1.1.0 ∙ sym (part e _ rest.0) in
-    let lowers = ended.to-end2.auto.1.1.1.0 ∙ sym (part e _ rest.1) in
-    ended_with (us s) (ls s) (found s) _ ended.before.before.before.if7.false (passes e) ended.to-end2.new.1.1.0
-    ended.to-end2.new.1.1.1.0 uppers lowers ended.to-end2.result ended.to-end2.ensures
+    let uppers = ended.to_end-2.auto.1.1.0 ∙ sym (part e _ rest.0) in
+    let lowers = ended.to_end-2.auto.1.1.1.0 ∙ sym (part e _ rest.1) in
+    ended_with (us s) (ls s) (found s) _ ended.if-unlimited.false (passes e) ended.to_end-2.new.1.1.0
+    ended.to_end-2.new.1.1.1.0 uppers lowers ended.to_end-2.result ended.to_end-2.ensures
 
 pub close_spec : {M : Type 1} → statement M
 close_spec =
     tie.close
     (tie.spec
-    (λ c. no_1 _ _ (no-first c.before.before.before.before.before (λ y. omega (arith, y.0, c.if1.true))))
-    (λ c. no_1 _ _ (no-first c.before.before.before.before.before.before (λ y. omega (arith, y.1, c.if2.true))))
+    (λ c. no_1 _ _ (no-first c.before.before.before.before.before (λ y. omega (arith, y.0, c.if-h-lt1.true))))
+    (λ c. no_1 _ _ (no-first c.before.before.before.before.before.before (λ y. omega (arith, y.1, c.if-h-gt-MAX_HORIZON.true))))
     returns-3
     returns-4
     returns-5
@@ -127,7 +127,7 @@ close_spec =
     (λ c. part c.before.before _ (room (asked c.before.before)).1)
     (λ c κs.
     let s = start (asked c.before.before) in
-    leasts_fit_with (us s) (ls s) (found s) _ c.before.if7.true (passes c.before.before))
+    leasts_fit_with (us s) (ls s) (found s) _ c.if-unlimited.true (passes c.before.before))
     (λ c. search rules)
     returns-7
     (λ c. search rules)
@@ -136,7 +136,7 @@ close_spec =
     (λ c. part c.before.before.before _ (room (asked c.before.before.before)).1)
     (λ c κs.
     let s = start (asked c.before.before.before) in
-    fit_with (us s) (ls s) (found s) _ c.before.before.if7.false (passes c.before.before.before))
+    fit_with (us s) (ls s) (found s) _ c.if-unlimited.false (passes c.before.before.before))
     (λ c. search rules)
     (λ c. search rules)
     returns-8)

@@ -8,25 +8,25 @@ use Rattle.closure.proofs.StandIns.{parts-told}
 use Rattle.closure.proofs.superadditive.Statement.{statement}
 use Rattle.closure.proofs.superadditive.Tie as tie
 
-abbrev invariant-loop : tie.invariant-loop
+abbrev invariant-loop : tie.invariant-loop-i
 invariant-loop lower holds₀ i₀ holds i = (i ≤ length lower) × Tells holds ((k : ℕ) → k < i → ReachesParts lower k)
 
-abbrev decreases-loop : tie.decreases-loop
+abbrev decreases-loop : tie.decreases-loop-i
 decreases-loop lower holds₀ i₀ holds i = length lower - i
 
-loop-again : tie.Need-loop-preserved invariant-loop decreases-loop
+loop-again : tie.Need-loop-i-preserved invariant-loop decreases-loop
 loop-again c =
-    let head = c.before.before.loop in
-    let ls = c.before.before.before.before.args.lower.now in
-    (omega arith, all_turn (ReachesParts ls) head.i head.holds c.reaches-parts.result head.invariant.1 c.reaches-parts.ensures)
+    let head = c.loop-i in
+    let ls = c.args.lower.now in
+    (omega arith, all_turn (ReachesParts ls) head.i head.holds c.reaches_parts-holds.result head.invariant.1 c.reaches_parts-holds.ensures)
 
 returns : tie.Need-returns invariant-loop decreases-loop
 returns c =
-    let head = c.before.loop in
-    parts-told c.before.before.before.args.lower.now head.i head.holds (omega arith) head.invariant.1
+    let head = c.loop-i in
+    parts-told c.args.lower.now head.i head.holds (omega arith) head.invariant.1
 
-pub superadditive-spec : {M : Type 1} → statement M
-superadditive-spec =
+pub superadditive_spec : {M : Type 1} → statement M
+superadditive_spec =
     tie.close
     (tie.spec
     invariant-loop

@@ -4,30 +4,30 @@ use Rattle.laws.proofs.Base.{ℕ, ◌-◌, ◌≤◌, ◌<◌, ◌≡◌, ap, ar
 use Rattle.constraints.proofs.is_header.Statement.{statement}
 use Rattle.constraints.proofs.is_header.Tie as tie
 
-abbrev invariant-loop : tie.invariant-loop
+abbrev invariant-loop : tie.invariant-loop-i
 invariant-loop line header i₀ i = (i ≤ 17) × ((k : ℕ) → k < i → get_or line k 0 ≡ get_or header k 0)
 
-abbrev decreases-loop : tie.decreases-loop
+abbrev decreases-loop : tie.decreases-loop-i
 decreases-loop line header i₀ i = 17 - i
 
-returns : tie.Need-returns invariant-loop decreases-loop
-returns c = λ e. omega (arith, ap length e, c.if1.true)
+returns : tie.Need-returns-then-line-ne17 invariant-loop decreases-loop
+returns c = λ e. omega (arith, ap length e, c.if-line-ne17.true)
 
-loop-holds : tie.Need-loop-init invariant-loop decreases-loop
+loop-holds : tie.Need-loop-i-init invariant-loop decreases-loop
 loop-holds c = (search rules, below_none _)
 
-returns-2 : tie.Need-returns-2 invariant-loop decreases-loop
-returns-2 c = λ e. c.if2.true (ap (λ l. get_or l c.before.before.before.before.loop.i 0) e)
+returns-2 : tie.Need-returns-then-line-i invariant-loop decreases-loop
+returns-2 c = λ e. c.if-line-i.true (ap (λ l. get_or l c.loop-i.i 0) e)
 
-loop-again : tie.Need-loop-preserved invariant-loop decreases-loop
-loop-again c = (search rules, below_more _ _ c.before.before.before.before.loop.invariant.1 c.if2.false)
+loop-again : tie.Need-loop-i-preserved invariant-loop decreases-loop
+loop-again c = (search rules, below_more _ _ c.loop-i.invariant.1 c.if-line-i.false)
 
-returns-3 : tie.Need-returns-3 invariant-loop decreases-loop
+returns-3 : tie.Need-returns invariant-loop decreases-loop
 returns-3 c =
-    ext_get_or 0 _ _ (omega arith) (λ i l. c.before.loop.invariant.1 i (omega arith))
+    ext_get_or 0 _ _ (omega arith) (λ i l. c.loop-i.invariant.1 i (omega arith))
 
-pub is-header-spec : {M : Type 1} → statement M
-is-header-spec =
+pub is_header_spec : {M : Type 1} → statement M
+is_header_spec =
     tie.close
     (tie.spec
     invariant-loop

@@ -14,97 +14,97 @@ use Rattle.constraints.proofs.Asking.{found_in_range, found_length, refused_at, 
 use Rattle.constraints.proofs.read_records.Statement.{statement}
 use Rattle.constraints.proofs.read_records.Tie as tie
 
-abbrev invariant-loop : tie.invariant-loop
+abbrev invariant-loop : tie.invariant-loop-at
 invariant-loop text leasts₀ mosts₀ horizon₀ smallest₀ at₀ leasts mosts horizon smallest at =
     (length leasts ≡ length leasts₀) × (length mosts ≡ length mosts₀)
     × Reached (records (drop 19 text)) (table_of horizon smallest leasts mosts) (records (drop at text))
 
-abbrev decreases-loop : tie.decreases-loop
+abbrev decreases-loop : tie.decreases-loop-at
 decreases-loop text leasts₀ mosts₀ horizon₀ smallest₀ at₀ leasts mosts horizon smallest at = length text - at
 
-loop-holds : tie.Need-loop-init invariant-loop decreases-loop
-loop-holds c = (search rules, search rules, reached_none _ _ c.before.before.before.requires.1)
+loop-holds : tie.Need-loop-at-init invariant-loop decreases-loop
+loop-holds c = (search rules, search rules, reached_none _ _ c.requires.1)
 
 -- The text, and the constraint that the record of a turn was found to be.
-abbrev text : tie.At-loop invariant-loop decreases-loop → Bytes
-text h = h.before.before.before.before.args.text.now
+abbrev text : tie.At-loop-at invariant-loop decreases-loop → Bytes
+text h = h.args.text.now
 
-abbrev head : tie.After-known-told invariant-loop decreases-loop → tie.At-loop invariant-loop decreases-loop
+abbrev head : tie.In-Spells invariant-loop decreases-loop → tie.At-loop-at invariant-loop decreases-loop
 head k = k.before.before.before.before.before.before
 
-abbrev IsRecord : tie.After-known-told invariant-loop decreases-loop → Type 0
+abbrev IsRecord : tie.In-Spells invariant-loop decreases-loop → Type 0
 IsRecord k =
-    let (w, (l, (g, (m, (n, _))))) = k.before.window.given.0 in
-    result (spelt (constraint w l (most_if g m)) m n) ≡ recording (record_at (text (head k)) (head k).loop.at)
+    let (w, (l, (g, (m, (n, _))))) = k.window-1.given.0 in
+    result (spelt (constraint w l (most_if g m)) m n) ≡ recording (record_at (text (head k)) (head k).loop-at.at)
 
-found : (k : tie.After-known-told invariant-loop decreases-loop) → IsRecord k
-found k = sym (ap record_reply k.before.window.given.1) ∙ k.before.before.before.read-record.ensures
+found : (k : tie.In-Spells invariant-loop decreases-loop) → IsRecord k
+found k = sym (ap record_reply k.in-Spells.is) ∙ k.read_record.ensures
 
-ranged : (k : tie.After-known-told invariant-loop decreases-loop)
-    → let (w, (l, (g, (m, _)))) = k.before.window.given.0 in InRange (constraint w l (most_if g m))
-ranged k = let (w, (l, (g, (m, (n, _))))) = k.before.window.given.0 in found_in_range _ w l g m n (found k)
+ranged : (k : tie.In-Spells invariant-loop decreases-loop)
+    → let (w, (l, (g, (m, _)))) = k.window-1.given.0 in InRange (constraint w l (most_if g m))
+ranged k = let (w, (l, (g, (m, (n, _))))) = k.window-1.given.0 in found_in_range _ w l g m n (found k)
 
-sub-if1 : tie.Need-overflow-sub-if1 invariant-loop decreases-loop
+sub-if1 : tie.Need-overflow_sub-window invariant-loop decreases-loop
 sub-if1 c = (ranged c).some
 
 -- The window's entry is within both lists.
-abbrev window : tie.After-known-told invariant-loop decreases-loop → ℕ
-window k = k.before.window.given.0.0
+abbrev window : tie.In-Spells invariant-loop decreases-loop → ℕ
+window k = k.in-Spells.window
 
-within : (k : tie.After-known-told invariant-loop decreases-loop)
-    → (window k - 1 < length (head k).loop.leasts) × (window k - 1 < length (head k).loop.mosts)
+within : (k : tie.In-Spells invariant-loop decreases-loop)
+    → (window k - 1 < length (head k).loop-at.leasts) × (window k - 1 < length (head k).loop-at.mosts)
 within k =
-    let sizes = holds_sized _ _ (head k).loop.invariant.2.holds in
+    let sizes = holds_sized _ _ (head k).loop-at.invariant.2.holds in
     (omega (arith, (ranged k).some, (ranged k).window, sizes.2), omega (arith, (ranged k).some, (ranged k).window, sizes.3))
 
-returns : tie.Need-returns invariant-loop decreases-loop
+returns : tie.Need-returns-then-mosts-window-ne-UNNAMED invariant-loop decreases-loop
 returns c =
     let k = c.before.before.before in
     let h = head k in
-    let (w, (l, (g, (m, (n, _))))) = k.before.window.given.0 in
+    let (w, (l, (g, (m, (n, _))))) = k.window-1.given.0 in
     stopped_as _ _ _ c.stopped.result Repeated c.stopped.ensures
-    (again_at (text h) _ _ h.loop.at (omega arith) h.loop.inv.2 w l g m n (found k) c.before.if1.true)
+    (again_at (text h) _ _ h.loop-at.at (omega arith) h.loop-at.invariant.2 w l g m n (found k) c.if-mosts-window-ne-UNNAMED.true)
 
-add-at-2 : tie.Need-overflow-add-at-2 invariant-loop decreases-loop
+add-at-2 : tie.Need-overflow_add-at-in-Spells invariant-loop decreases-loop
 add-at-2 c =
     let k = c.before.before.before.before.before in
-    let (w, (l, (g, (m, (n, _))))) = k.before.window.given.0 in
-    omega (arith, found_length _ w l g m n (found k), record_fits (text (head k)) (head k).loop.at (omega arith))
+    let (w, (l, (g, (m, (n, _))))) = k.window-1.given.0 in
+    omega (arith, found_length _ w l g m n (found k), record_fits (text (head k)) (head k).loop-at.at (omega arith))
 
-add_at : tie.Need-overflow-add-at invariant-loop decreases-loop
+add_at : tie.Need-overflow_add-at invariant-loop decreases-loop
 add_at c = omega (arith, add-at-2 c)
 
-loop-again : tie.Need-loop-preserved invariant-loop decreases-loop
+loop-again : tie.Need-loop-at-preserved invariant-loop decreases-loop
 loop-again c =
     let k = c.before.before.before.before.before in
     let h = head k in
-    let (w, (l, (g, (m, (n, _))))) = k.before.window.given.0 in (
+    let (w, (l, (g, (m, (n, _))))) = k.window-1.given.0 in (
       search rules,
       search rules,
-      rw (c.smaller.ensures, c.before.larger.ensures, c.before.before.most-or-none.ensures)
-          (onward_at (text h) _ _ h.loop.at (omega arith) h.loop.inv.2 w l g m n (found k) c.before.before.before.if1.false),
+      rw (c.smaller-smallest.ensures, c.larger-horizon.ensures, c.most_or_none-m.ensures)
+          (onward_at (text h) _ _ h.loop-at.at (omega arith) h.loop-at.invariant.2 w l g m n (found k) c.if-mosts-window-ne-UNNAMED.false),
     )
 
-returns-2 : tie.Need-returns-2 invariant-loop decreases-loop
+returns-2 : tie.Need-returns-in-Malformed invariant-loop decreases-loop
 returns-2 c =
     let h = c.before.before.before.before.before.before in
-    stopped_as _ _ _ c.stopped2.result Malformed c.stopped2.ensures
-    (refused_at (text h) _ _ h.loop.at (omega arith) h.loop.invariant.2 7
-    (sym (ap record_reply c.before.enum_told.given.1) ∙ c.before.before.before.read-record.ensures))
+    stopped_as _ _ _ c.stopped-in-Malformed.result Malformed c.stopped-in-Malformed.ensures
+    (refused_at (text h) _ _ h.loop-at.at (omega arith) h.loop-at.invariant.2 7
+    (sym (ap record_reply c.in-Malformed.is) ∙ c.read_record.ensures))
 
-returns-3 : tie.Need-returns-3 invariant-loop decreases-loop
+returns-3 : tie.Need-returns-in-OutOfRange invariant-loop decreases-loop
 returns-3 c =
     let h = c.before.before.before.before.before.before in
-    stopped_as _ _ _ c.stopped3.result OutOfRange c.stopped3.ensures
-    (refused_at (text h) _ _ h.loop.at (omega arith) h.loop.invariant.2 8
-    (sym (ap record_reply c.before.enum-told2.given.1) ∙ c.before.before.before.read-record.ensures))
+    stopped_as _ _ _ c.stopped-in-OutOfRange.result OutOfRange c.stopped-in-OutOfRange.ensures
+    (refused_at (text h) _ _ h.loop-at.at (omega arith) h.loop-at.invariant.2 8
+    (sym (ap record_reply c.in-OutOfRange.is) ∙ c.read_record.ensures))
 
-returns-4 : tie.Need-returns-4 invariant-loop decreases-loop
+returns-4 : tie.Need-returns invariant-loop decreases-loop
 returns-4 c =
-    let h = c.before in reached_end (text h) _ _ h.loop.at (omega arith) h.loop.invariant.2
+    let h = c.before in reached_end (text h) _ _ h.loop-at.at (omega arith) h.loop-at.invariant.2
 
-pub read-records-spec : {M : Type 1} → statement M
-read-records-spec =
+pub read_records_spec : {M : Type 1} → statement M
+read_records_spec =
     tie.close
     (tie.spec
     invariant-loop

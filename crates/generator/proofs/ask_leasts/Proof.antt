@@ -8,39 +8,39 @@ use Rattle.generator.proofs.ask_leasts.Tie as tie
 
 -- The lists, seen from where they have been asked about.
 abbrev us : tie.After-ask → List ℕ
-us f = f.before.before.before.args.upper.now
+us f = f.args.upper.now
 
 abbrev ls : tie.After-ask → List ℕ
-ls f = f.before.before.before.args.lower.now
+ls f = f.args.lower.now
 
-returns : tie.Need-returns
+returns : tie.Need-returns-then-superadditive
 returns c =
     let sums = c.before in
     let f = sums.before.before.before in
-    leasts_closed (us f) (ls f) f.ask.result f.ask.ensures sums.before.enum_told.given.1
-    (either_true _ _ sums.superadditive.result c.if1.true sums.superadditive.ensures)
+    leasts_closed (us f) (ls f) f.ask.result f.ask.ensures sums.in-Passes.is
+    (either_true _ _ sums.superadditive.result c.if-superadditive.true sums.superadditive.ensures)
 
-returns-2 : tie.Need-returns-2
+returns-2 : tie.Need-returns-else-superadditive
 returns-2 c =
     let sums = c.before in
     let f = sums.before.before.before in
-    leasts_not_closed (us f) (ls f) f.ask.result f.ask.ensures sums.before.enum_told.given.1
-    (either_false _ _ sums.superadditive.result c.if1.false sums.superadditive.ensures)
+    leasts_not_closed (us f) (ls f) f.ask.result f.ask.ensures sums.in-Passes.is
+    (either_false _ _ sums.superadditive.result c.if-superadditive.false sums.superadditive.ensures)
 
-returns-3 : tie.Need-returns-3
+returns-3 : tie.Need-returns-in-UpperLength
 returns-3 c =
-    let f = c.before.before in leasts_first (us f) (ls f) f.ask.result f.ask.ensures c.enum-told2.given.1
+    let f = c.before.before in leasts_first (us f) (ls f) f.ask.result f.ask.ensures c.in-UpperLength.is
 
-returns-4 : tie.Need-returns-4
+returns-4 : tie.Need-returns-in-LowerLength
 returns-4 c =
-    let f = c.before.before in leasts_second (us f) (ls f) f.ask.result f.ask.ensures c.enum-told3.given.1
+    let f = c.before.before in leasts_second (us f) (ls f) f.ask.result f.ask.ensures c.in-LowerLength.is
 
-returns-5 : tie.Need-returns-5
+returns-5 : tie.Need-returns-in-FigureLimit
 returns-5 c =
-    let f = c.before.before in leasts_fourth (us f) (ls f) f.ask.result f.ask.ensures c.enum-told4.given.1
+    let f = c.before.before in leasts_fourth (us f) (ls f) f.ask.result f.ask.ensures c.in-FigureLimit.is
 
-pub ask-leasts-spec : {M : Type 1} → statement M
-ask-leasts-spec =
+pub ask_leasts_spec : {M : Type 1} → statement M
+ask_leasts_spec =
     tie.close
     (tie.spec
     (λ c κs. search rules)

@@ -7,20 +7,19 @@ use Rattle.generator.proofs.Opening.{answers}
 use Rattle.generator.proofs.ask_opening.Statement.{statement}
 use Rattle.generator.proofs.ask_opening.Tie as tie
 
-returns : tie.Need-returns
-returns c = rw c.before.if1.true c.ask-leasts.ensures
+returns : tie.Need-returns-then-unlimited
+returns c = rw c.if-unlimited.true c.ask_leasts.ensures
 
-returns-2 : tie.Need-returns-2
+returns-2 : tie.Need-returns
 returns-2 c =
-    let close = c.before.before.before.close in
-    let zeros = c.before.before.before.before.before.before in
-    let a = zeros.before.before.before.before.before.args in
+    let close = c.close in
+    let a = c.args in
     let p : Pair = pair_of a.upper.now a.lower.now in
-    answers a.upper.now a.lower.now a.unlimited c.opening-for.result close.result _ zeros.before.before.if1.false
-    c.opening-for.ensures (in_zeros p _ _ _ zeros.before.zeros.ensures zeros.zeros2.ensures close.ensures)
+    answers a.upper.now a.lower.now a.unlimited c.opening_for.result close.result _ c.if-unlimited.false
+    c.opening_for.ensures (in_zeros p _ _ _ c.zeros-closed_upper.ensures c.zeros-closed_lower.ensures close.ensures)
 
-pub ask-opening-spec : {M : Type 1} → statement M
-ask-opening-spec =
+pub ask_opening_spec : {M : Type 1} → statement M
+ask_opening_spec =
     tie.close
     (tie.spec
     (λ c κs. search rules)

@@ -11,20 +11,20 @@ use Rattle.generator.proofs.Ranging.{chosen_below, chosen_is}
 use Rattle.generator.proofs.choose.Statement.{statement}
 use Rattle.generator.proofs.choose.Tie as tie
 
-abbrev start : tie.After-known-told → tie.Start
+abbrev start : tie.In-Range → tie.Start
 start c = c.before.before.before
 
 -- What is required, where there is a range.
-known : (c : tie.After-known-told) → ChoosesWhere (Range c.before.admissible.given.0.0 c.before.admissible.given.0.1.0)
-known c = subst ChoosesWhere c.before.admissible.given.1 (start c).requires
+known : (c : tie.In-Range) → ChoosesWhere (Range c.in-Range.lo c.in-Range.hi)
+known c = subst ChoosesWhere c.in-Range.is (start c).requires
 
 -- What is promised, for the range that was shown.
 abbrev For : ℕ → Reply ℕ → Admissible → Type 0
 For choice reply a = reply ≡ sent_from (range_reply a) choice
 
-returns : tie.Need-returns
+returns : tie.Need-returns-in-Range
 returns c =
-    let told = c.before.admissible.given in
+    let told = c.admissible-1.given in
     let choice = (start c).args.choice in
     subst⁻¹ (For choice _) told.1 (ap result (chosen_is told.0.0 told.0.1.0 choice))
 

@@ -5,7 +5,7 @@ use Rattle.generator.proofs.cut_off.Statement.{statement}
 use Rattle.generator.proofs.cut_off.Tie as tie
 
 returns : tie.Need-returns
-returns c = λ i. record { lo = c.before.difference.ensures i; end = c.difference2.ensures i }
+returns c = λ i. record { lo = c.difference.ensures i; end = c.difference-2.ensures i }
 
-pub cut-off-spec : {M : Type 1} → statement M
-cut-off-spec = tie.close (tie.spec (λ c κs. search rules) (λ c. search rules) (λ c κs. search rules) returns)
+pub cut_off_spec : {M : Type 1} → statement M
+cut_off_spec = tie.close (tie.spec (λ c κs. search rules) (λ c. search rules) (λ c κs. search rules) returns)

@@ -15,50 +15,50 @@ use Rattle.generator.proofs.find_range.Tie as tie
 abbrev state : tie.Start → History
 state s = let a = s.args in history_of a.horizon a.upper.now a.lower.now a.unlimited a.held a.ticks.now
 
-returns : tie.Need-returns
+returns : tie.Need-returns-in_default
 returns c =
     let s = c.before.before.before in
-    let asked = c.before.before.ask-legality in
+    let asked = c.ask_legality in
     sym (ranging_bad _ (illegal_from (view_of (state s)) asked.result (asked.ensures.answer s.args.ticks.now)
-    c.enum-told2.given.1))
+    c.in_default.is))
 
 -- Where question 12 is answered yes, the state has its form.
-abbrev first : tie.After-enum-told → tie.Start
+abbrev first : tie.In-Legal → tie.Start
 first t = t.before.before.before
 
-legal : (t : tie.After-enum-told) → Legal (view_of (state (first t)))
+legal : (t : tie.In-Legal) → Legal (view_of (state (first t)))
 legal t =
-    let asked = t.before.before.ask-legality in
-    legal_from (view_of (state (first t))) asked.result (asked.ensures.answer (first t).args.ticks.now) t.enum_told.given.1
+    let asked = t.ask_legality in
+    legal_from (view_of (state (first t))) asked.result (asked.ensures.answer (first t).args.ticks.now) t.in-Legal.is
 
-sizes : (t : tie.After-enum-told) → Sizes (state (first t))
+sizes : (t : tie.In-Legal) → Sizes (state (first t))
 sizes t = legal_sizes (state (first t)) (legal t)
 
 -- Where all three arrays are slices.
-abbrev told : tie.After-counts → tie.After-enum-told
+abbrev told : tie.After-counts-1 → tie.In-Legal
 told e = e.before.before.before
 
-arrays : (e : tie.After-counts) → Arrays (state (first (told e)))
+arrays : (e : tie.After-counts-1) → Arrays (state (first (told e)))
 arrays e =
     record {
-      uppers = e.before.before.upper-figures.given.0;
-      lowers = e.before.lower-figures.given.0;
-      held = e.counts.given.0;
+      uppers = e.upper_figures-1.given.0;
+      lowers = e.lower_figures-1.given.0;
+      held = e.counts-1.given.0;
     }
 
-limited : (c : tie.After-limit) → Limited (view_of (state (first (told c.before.before.before.before)))) c.limit.result
+limited : (c : tie.After-limit-limits) → Limited (view_of (state (first (told c.before.before.before.before)))) c.limit-limits.result
 limited c =
     let e = c.before.before.before.before in
-    subst⁻¹ (λ (v : View). Limited v c.limit.result) (view_sliced _ (arrays e) (sizes (told e))) c.limit.ensures
+    subst⁻¹ (λ (v : View). Limited v c.limit-limits.result) (view_sliced _ (arrays e) (sizes (told e))) c.limit-limits.ensures
 
-returns-2 : tie.Need-returns-2
+returns-2 : tie.Need-returns
 returns-2 c =
     let found = c.before in
     let e = found.before.before.before.before in
-    shown_range _ (legal (told e)) found.limit.result (limited found) c.range-of.result c.range-of.ensures
+    shown_range _ (legal (told e)) found.limit-limits.result (limited found) c.range_of.result c.range_of.ensures
 
-pub find-range-spec : {M : Type 1} → statement M
-find-range-spec =
+pub find_range_spec : {M : Type 1} → statement M
+find_range_spec =
     tie.close
     (tie.spec
     (λ c κs. search rules)

@@ -4,11 +4,11 @@ use Rattle.laws.proofs.Base.{refl, rules}
 use Rattle.generator.proofs.lowered.Statement.{statement}
 use Rattle.generator.proofs.lowered.Tie as tie
 
-pub lowered-spec : {M : Type 1} → statement M
-lowered-spec =
+pub lowered_spec : {M : Type 1} → statement M
+lowered_spec =
     tie.close
     (tie.spec
-    (λ c. rw c.if1.true refl)
+    (λ c. rw c.if-unlimited.true refl)
     (λ c. search rules)
     (λ c κs. search rules)
-    (λ c. rw c.before.if1.false c.smaller.ensures))
+    (λ c. rw c.if-unlimited.false c.smaller.ensures))

@@ -12,12 +12,12 @@ use Rattle.generator.proofs.opening_for.Tie as tie
 abbrev For : Closing → Type 0
 For closing = NotClosed ≡ generator_opening_for closing
 
-returns-2 : tie.Need-returns-2
+returns-2 : tie.Need-returns-else-rounds-eq0
 returns-2 c =
-    let told = c.before.before.closing.given in subst⁻¹ For told.1 (some_round _ told.0.1.0 c.if1.false)
+    let told = c.closing-1.given in subst⁻¹ For told.1 (some_round _ told.0.1.0 c.if-rounds-eq0.false)
 
-pub opening-for-spec : {M : Type 1} → statement M
-opening-for-spec =
+pub opening_for_spec : {M : Type 1} → statement M
+opening_for_spec =
     tie.close
     (tie.spec
     (λ c. search rules)
@@ -29,4 +29,4 @@ opening-for-spec =
     (λ c. search rules)
     (λ c. search rules)
     (λ c. search rules)
-    (λ c. others For refl refl c.before.args.closing c.match.keys5))
+    (λ c. others For refl refl c.args.closing c.in_default.in_default-own.keys5))

@@ -6,11 +6,11 @@ use Rattle.generator.proofs.range_of.Statement.{statement}
 use Rattle.generator.proofs.range_of.Tie as tie
 
 -- Where the limits leave a count.
-small : (e : tie.Else1) → e.before.args.limits.end ≤ suc figure_limit
-small e = e.before.requires (omega arith)
+small : (e : tie.Else-end-lo) → e.args.limits.end ≤ suc figure_limit
+small e = e.requires (omega arith)
 
-pub range-of-spec : {M : Type 1} → statement M
-range-of-spec =
+pub range_of_spec : {M : Type 1} → statement M
+range_of_spec =
     tie.close
     (tie.spec
     (λ c. search rules)

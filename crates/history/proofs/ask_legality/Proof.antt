@@ -15,52 +15,52 @@ abbrev with : tie.Start → List ℕ → History
 with s xs = history_of s.args.horizon s.args.upper.now s.args.lower.now s.args.unlimited s.args.held xs
 
 -- Where both arrays are slices and fewer ticks are held than a horizon of at most 256: there is a figure for each window up to it.
-abbrev start : tie.After-lower-figures → tie.Start
+abbrev start : tie.After-lower_figures-1 → tie.Start
 start e = e.before.before.before.before
 
-sizes : (e : tie.After-lower-figures) (xs : List ℕ) → Sizes (with (start e) xs)
+sizes : (e : tie.After-lower_figures-1) (xs : List ℕ) → Sizes (with (start e) xs)
 sizes e xs = record { within = omega arith; fewer = omega arith }
 
-uppers : (e : tie.After-lower-figures) → (start e).args.horizon ≤ length (start e).args.upper.now
-uppers e = let l : length (start e).args.upper.now ≡ max_horizon = e.before.upper-figures.given.0 in omega arith
+uppers : (e : tie.After-lower_figures-1) → (start e).args.horizon ≤ length (start e).args.upper.now
+uppers e = let l : length (start e).args.upper.now ≡ max_horizon = e.upper_figures-1.given.0 in omega arith
 
-lowers : (e : tie.After-lower-figures) → (start e).args.horizon ≤ length (start e).args.lower.now
-lowers e = let l : length (start e).args.lower.now ≡ max_horizon = e.lower-figures.given.0 in omega arith
+lowers : (e : tie.After-lower_figures-1) → (start e).args.horizon ≤ length (start e).args.lower.now
+lowers e = let l : length (start e).args.lower.now ≡ max_horizon = e.lower_figures-1.given.0 in omega arith
 
 -- From where the figures have been asked about.
-abbrev sized : tie.After-all-within → tie.After-lower-figures
+abbrev sized : tie.After-all_within → tie.After-lower_figures-1
 sized k = k.before.before.before
 
-returns : tie.Need-returns
-returns c = record { answer = λ xs. legality_no _ (λ l. omega (arith, (legal_sizes (with c.before xs) l).within, c.if1.true)) }
+returns : tie.Need-returns-then-horizon-gt-MAX_HORIZON
+returns c = record { answer = λ xs. legality_no _ (λ l. omega (arith, (legal_sizes (with c.before xs) l).within, c.if-horizon-gt-MAX_HORIZON.true)) }
 
-returns-2 : tie.Need-returns-2
+returns-2 : tie.Need-returns-then-horizon-held
 returns-2 c =
-    record { answer = λ xs. legality_no _ (λ l. omega (arith, (legal_sizes (with c.before.before xs) l).fewer, c.if2.true)) }
+    record { answer = λ xs. legality_no _ (λ l. omega (arith, (legal_sizes (with c.before.before xs) l).fewer, c.if-horizon-held.true)) }
 
-returns-3 : tie.Need-returns-3
+returns-3 : tie.Need-returns-then-not-all_within
 returns-3 c =
     let e = sized c.before in
-    let found = c.before.all-within in
+    let found = c.all_within in
     record {
       answer =
           λ xs. legality_no _ (λ l.
-          told_no _ found.result c.if3.true found.ensures (legal_bounded (with (start e) xs) (uppers e) (lowers e) l));
+          told_no _ found.result c.if-not-all_within.true-raw found.ensures (legal_bounded (with (start e) xs) (uppers e) (lowers e) l));
     }
 
-returns-4 : tie.Need-returns-4
+returns-4 : tie.Need-returns
 returns-4 c =
     let e = sized c.before in
-    let found = c.before.all-within in
+    let found = c.all_within in
     record {
       answer =
           λ xs. legality_yes _
           (bounded_legal (with (start e) xs) (uppers e) (lowers e) (sizes e xs)
-          (told_yes _ found.result c.if3.false found.ensures));
+          (told_yes _ found.result c.if-not-all_within.false-raw found.ensures));
     }
 
-pub ask-legality-spec : {M : Type 1} → statement M
-ask-legality-spec =
+pub ask_legality_spec : {M : Type 1} → statement M
+ask_legality_spec =
     tie.close
     (tie.spec
     returns

@@ -8,7 +8,7 @@ use Rattle.history.proofs.ask_opening.Tie as tie
 
 returns : tie.Need-returns
 returns c =
-    let found = c.before.ask in ap opening_reply c.opening-for.ensures ∙ answers _ found.result found.ensures
+    let found = c.ask in ap opening_reply c.opening_for.ensures ∙ answers _ found.result found.ensures
 
-pub ask-opening-spec : {M : Type 1} → statement M
-ask-opening-spec = tie.close (tie.spec (λ c κs. search rules) (λ c κs. search rules) returns)
+pub ask_opening_spec : {M : Type 1} → statement M
+ask_opening_spec = tie.close (tie.spec (λ c κs. search rules) (λ c κs. search rules) returns)

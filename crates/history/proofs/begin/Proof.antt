@@ -9,22 +9,22 @@ use Rattle.history.proofs.begin.Tie as tie
 abbrev for : tie.Start → AnyPair
 for s = with_mark s.args.upper.now s.args.lower.now s.args.unlimited
 
-returns : tie.Need-returns
+returns : tie.Need-returns-in-Opened
 returns c =
     let s = c.before.before.before.before.before in
-    begun_fresh (for s) _ s.args.answer s.requires c.before.enum_told.given.1 c.unbegun.ensures
+    begun_fresh (for s) _ s.args.answer s.requires c.in-Opened.is c.unbegun.ensures
 
-returns-2 : tie.Need-returns-2
+returns-2 : tie.Need-returns-in_default
 returns-2 c =
     let s = c.before.before.before.before in
-    begun_zero (for s) _ s.args.answer s.requires c.before.match.keys2 c.zero.ensures
+    begun_zero (for s) _ s.args.answer s.requires c.in_default.in_default-own.keys2 c.zero.ensures
 
-pub begin-spec : {M : Type 1} → statement M
-begin-spec =
+pub begin_spec : {M : Type 1} → statement M
+begin_spec =
     tie.close
     (tie.spec
     (λ c. search rules)
-    (λ c κs. opened_yes _ _ c.enum_told.given.1 c.before.before.before.before.requires)
+    (λ c κs. opened_yes _ _ c.in-Opened.is c.requires)
     (λ c κs. search rules)
     returns
     returns-2)

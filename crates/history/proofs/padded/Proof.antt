@@ -7,8 +7,7 @@ use Rattle.history.proofs.padded.Tie as tie
 
 returns : tie.Need-returns
 returns c =
-    let zeros = c.before.before.before in
-    padded_is _ _ _ _ zeros.before.before.requires zeros.zeros.ensures c.before.copy.ensures
+    padded_is _ _ _ _ c.requires c.zeros-out.ensures c.copy.ensures
 
-pub padded-spec : {M : Type 1} → statement M
-padded-spec = tie.close (tie.spec (λ c κs. search rules) (λ c. search rules) (λ c κs. search rules) returns)
+pub padded_spec : {M : Type 1} → statement M
+padded_spec = tie.close (tie.spec (λ c κs. search rules) (λ c. search rules) (λ c κs. search rules) returns)

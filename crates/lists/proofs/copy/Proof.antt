@@ -6,25 +6,25 @@ use Rattle.laws.proofs.Copying.{copied_more, copied_room, copied_all, same_turn}
 use Rattle.lists.proofs.copy.Statement.{statement}
 use Rattle.lists.proofs.copy.Tie as tie
 
-abbrev invariant-loop : tie.invariant-loop
+abbrev invariant-loop : tie.invariant-loop-i
 invariant-loop from to₀ same₀ i₀ to same i =
     (i ≤ length from) × (i ≤ length to₀) × (length to ≡ length to₀) × (to ≡ take i from ++ drop i to₀) × Tells same (to ≡ to₀)
 
-abbrev decreases-loop : tie.decreases-loop
+abbrev decreases-loop : tie.decreases-loop-i
 decreases-loop from to₀ same₀ i₀ to same i = length from - i
 
-returns : tie.Need-returns invariant-loop decreases-loop
+returns : tie.Need-returns-then-to-i invariant-loop decreases-loop
 returns c =
-    let end = c.before.before.loop.invariant in
-    record { entries = copied_room _ _ _ _ end.3 (omega (arith, c.if1.true, end.1, end.2)) end.0; told = end.4 }
+    let end = c.before.before.loop-i.invariant in
+    record { entries = copied_room _ _ _ _ end.3 (omega (arith, c.if-to-i.true, end.1, end.2)) end.0; told = end.4 }
 
-loop-again : tie.Need-loop-preserved invariant-loop decreases-loop
+loop-again : tie.Need-loop-i-preserved invariant-loop decreases-loop
 loop-again c =
     let test = c.before.before.before.before in
-    let head = test.before.loop in
+    let head = test.before.loop-i in
     let from = c.before.before.before.before.before.before.args.from.now in
-    let inside = test.loop-test.true in
-    let left = c.before.before.before.if1.false in (
+    let inside = test.loop-i-test.true in
+    let left = c.before.before.before.if-to-i.false in (
       omega (arith, inside),
       omega (arith, left, head.invariant.2),
       search rules,
@@ -33,11 +33,11 @@ loop-again c =
           head.invariant.4,
     )
 
-returns-2 : tie.Need-returns-2 invariant-loop decreases-loop
+returns-2 : tie.Need-returns invariant-loop decreases-loop
 returns-2 c =
-    let end = c.before.loop.invariant in
+    let end = c.before.loop-i.invariant in
     record {
-      entries = copied_all c.before.before.args.from.now _ _ _ end.3 (omega (arith, c.loop-test.false, end.0)) end.1;
+      entries = copied_all c.before.before.args.from.now _ _ _ end.3 (omega (arith, c.loop-i-test.false, end.0)) end.1;
       told = end.4;
     }
 

@@ -5,25 +5,25 @@ use Rattle.lists.proofs.Pushing.{moved_turn}
 use Rattle.lists.proofs.move_down.Statement.{statement}
 use Rattle.lists.proofs.move_down.Tie as tie
 
-abbrev invariant-loop : tie.invariant-loop
+abbrev invariant-loop : tie.invariant-loop-i
 invariant-loop list₀ by n i₀ list i = (i ≤ n) × (length list ≡ length list₀) × (list ≡ take i (drop by list₀) ++ drop i list₀)
 
-abbrev decreases-loop : tie.decreases-loop
+abbrev decreases-loop : tie.decreases-loop-i
 decreases-loop list₀ by n i₀ list i = n - i
 
-loop-again : tie.Need-loop-preserved invariant-loop decreases-loop
+loop-again : tie.Need-loop-i-preserved invariant-loop decreases-loop
 loop-again c =
-    let head = c.before.before.loop in (
-      omega (arith, c.before.loop-test.true),
+    let head = c.before.before.loop-i in (
+      omega (arith, c.before.loop-i-test.true),
       search rules,
       moved_turn _ head.list _ head.i
-          (omega (arith, c.before.loop-test.true)) head.invariant.2,
+          (omega (arith, c.before.loop-i-test.true)) head.invariant.2,
     )
 
 returns : tie.Need-returns invariant-loop decreases-loop
 returns c =
-    let end = c.before.loop in
-    let e : end.i ≡ c.before.before.args.n = omega (arith, c.loop-test.false, end.invariant.0) in
+    let end = c.before.loop-i in
+    let e : end.i ≡ c.before.before.args.n = omega (arith, c.loop-i-test.false, end.invariant.0) in
     end.invariant.2 ∙ ap (λ k. take k (drop c.before.before.args.by c.before.before.args.list.now) ++ drop k
     c.before.before.args.list.now) e
 

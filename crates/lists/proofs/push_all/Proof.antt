@@ -6,26 +6,26 @@ use Rattle.lists.proofs.Pushing.{pushed_over, pushed_behind}
 use Rattle.lists.proofs.push_all.Statement.{statement}
 use Rattle.lists.proofs.push_all.Tie as tie
 
-returns : tie.Need-returns
+returns : tie.Need-returns-then-room-n
 returns c =
     let args = c.before.before.before.before.before.before.before.before.args in
-    pushed_over args.list.now args.held args.counts.now c.before.before.before.before.before.if1.true _
+    pushed_over args.list.now args.held args.counts.now c.before.before.before.before.before.if-room-n.true _
     c.before.before.copy.ensures.entries
 
-returns-2 : tie.Need-returns-2
+returns-2 : tie.Need-returns
 returns-2 c =
     let moved = c.before.before.before.before.before.before in
     let args = moved.before.before.before.before.before.before.before.args in
-    let first = moved.before.before.before.smaller.ensures in
-    let kept = moved.before.before.smaller2.result in
+    let first = moved.before.before.before.smaller-there.ensures in
+    let kept = moved.before.before.smaller-kept.result in
     pushed_behind args.list.now args.held args.counts.now kept
-    (omega (arith, moved.before.before.before.before.if1.false))
-    (moved.before.before.smaller2.ensures ∙ ap (λ k. min k (length args.list.now - length args.counts.now)) first) _ _ _
-    (moved.move_down.ensures ∙ ap (λ k. moved_down (k - kept) kept args.list.now) first) c.before.before.copy2.ensures.entries
+    (omega (arith, moved.before.before.before.before.if-room-n.false))
+    (moved.before.before.smaller-kept.ensures ∙ ap (λ k. min k (length args.list.now - length args.counts.now)) first) _ _ _
+    (moved.move_down.ensures ∙ ap (λ k. moved_down (k - kept) kept args.list.now) first) c.before.before.copy-2.ensures.entries
     refl
 
-pub push-all-spec : {M : Type 1} → statement M
-push-all-spec =
+pub push_all_spec : {M : Type 1} → statement M
+push_all_spec =
     tie.close
     (tie.spec
     (λ c. search rules)

@@ -6,24 +6,24 @@ use Rattle.lists.proofs.Pushing.{shifted-turn, shifted_all}
 use Rattle.lists.proofs.shift_down.Statement.{statement}
 use Rattle.lists.proofs.shift_down.Tie as tie
 
-abbrev invariant-loop : tie.invariant-loop
+abbrev invariant-loop : tie.invariant-loop-i
 invariant-loop list₀ last i₀ list i = (i ≤ last) × (length list ≡ length list₀) × Filled (λ k. get_or list₀ k 0) list₀ list i
 
-abbrev decreases-loop : tie.decreases-loop
+abbrev decreases-loop : tie.decreases-loop-i
 decreases-loop list₀ last i₀ list i = last - i
 
-loop-again : tie.Need-loop-preserved invariant-loop decreases-loop
+loop-again : tie.Need-loop-i-preserved invariant-loop decreases-loop
 loop-again c =
-    let head = c.before.before.loop in
+    let head = c.before.before.loop-i in
     (omega arith, search rules, shifted-turn _ head.list head.i (omega arith) head.invariant.2)
 
 returns : tie.Need-returns invariant-loop decreases-loop
 returns c =
-    let end = c.before.loop in
+    let end = c.before.loop-i in
     shifted_all _ _ _ end.i refl (omega arith) end.invariant.2
 
-pub shift-down-spec : {M : Type 1} → statement M
-shift-down-spec =
+pub shift_down_spec : {M : Type 1} → statement M
+shift_down_spec =
     tie.close
     (tie.spec
     invariant-loop

@@ -13,36 +13,36 @@ use Rattle.monitor.proofs.examine.Tie as tie
 abbrev history : tie.Start → History
 history s = let a = s.args in history_of a.horizon a.upper.now a.lower.now a.unlimited a.held a.ticks.now
 
-returns : tie.Need-returns
+returns : tie.Need-returns-in_default
 returns c =
     let t = c.before in
     let s = t.before.before.before in
-    let asked = t.before.before.ask-legality in
+    let asked = t.ask_legality in
     examined_refused s.args.earlier _ (history s) _ c.unjudged.ensures
-    (illegal_from (view_of (history s)) asked.result (asked.ensures.answer s.args.ticks.now) t.enum-told2.given.1)
+    (illegal_from (view_of (history s)) asked.result (asked.ensures.answer s.args.ticks.now) t.in_default.is)
 
 -- Where it is answered yes.
-abbrev start : tie.After-enum-told → tie.Start
+abbrev start : tie.In-Legal → tie.Start
 start t = t.before.before.before
 
-legal : (t : tie.After-enum-told) → Legal (view_of (history (start t)))
+legal : (t : tie.In-Legal) → Legal (view_of (history (start t)))
 legal t =
-    let asked = t.before.before.ask-legality in
-    legal_from (view_of (history (start t))) asked.result (asked.ensures.answer (start t).args.ticks.now) t.enum_told.given.1
+    let asked = t.ask_legality in
+    legal_from (view_of (history (start t))) asked.result (asked.ensures.answer (start t).args.ticks.now) t.in-Legal.is
 
-sizes : (t : tie.After-enum-told) → Sizes (history (start t))
+sizes : (t : tie.In-Legal) → Sizes (history (start t))
 sizes t = legal_sizes (history (start t)) (legal t)
 
 -- Where the arrays are slices.
-abbrev told : tie.After-counts → tie.After-enum-told
+abbrev told : tie.After-counts-1 → tie.In-Legal
 told e = e.before.before.before
 
-arrays : (e : tie.After-counts) → Arrays (history (start (told e)))
+arrays : (e : tie.After-counts-1) → Arrays (history (start (told e)))
 arrays e =
     record {
-      uppers = e.before.before.upper-figures.given.0;
-      lowers = e.before.lower-figures.given.0;
-      held = e.counts.given.0;
+      uppers = e.upper_figures-1.given.0;
+      lowers = e.lower_figures-1.given.0;
+      held = e.counts-1.given.0;
     }
 
 rule-requires : tie.Need-rule-requires
@@ -51,15 +51,15 @@ rule-requires c κs =
     let s = start (told e) in
     (slices _ (arrays e) (sizes (told e)), fits_sliced s.args.earlier (history s) (arrays e) (sizes (told e)) _ s.pre)
 
-returns-2 : tie.Need-returns-2
+returns-2 : tie.Need-returns
 returns-2 c =
     let e = c.before.before.before.before in
     let s = start (told e) in
     examined_ruled s.args.earlier (history s) (arrays e) (sizes (told e)) s.args.count c.rule.result (legal (told e))
     c.rule.ensures
 
-pub examine-spec : {M : Type 1} → statement M
-examine-spec =
+pub examine_spec : {M : Type 1} → statement M
+examine_spec =
     tie.close
     (tie.spec
     (λ c κs. search rules)

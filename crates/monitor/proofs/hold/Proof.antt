@@ -8,22 +8,20 @@ use Rattle.monitor.proofs.hold.Statement.{statement}
 use Rattle.monitor.proofs.hold.Tie as tie
 
 -- Where the tick passes: there is a window, and a place for each.
-places : (e : tie.Else1) → let s = e.before.before in (1 ≤ s.args.horizon) × (s.args.horizon ≤ length s.args.ticks.now)
+places : (e : tie.Else-not-passes) → (1 ≤ e.args.horizon) × (e.args.horizon ≤ length e.args.ticks.now)
 places e =
-    let s = e.before.before in
-    subst (λ t. HoldsWhere t s.args.horizon s.args.ticks.now) (not-false s.args.passes e.if1.false) s.requires
+    subst (λ t. HoldsWhere t e.args.horizon e.args.ticks.now) (not-false e.args.passes e.if-not-passes.false-raw) e.requires
 
-returns : tie.Need-returns
-returns c = let s = c.before.before in held_as_found s.args.passes _ _ _ _ (not-true s.args.passes c.if1.true)
+returns : tie.Need-returns-then-not-passes
+returns c = held_as_found c.args.passes _ _ _ _ (not-true c.args.passes c.if-not-passes.true-raw)
 
-returns-2 : tie.Need-returns-2
+returns-2 : tie.Need-returns
 returns-2 c =
     let e = c.before.before.before.before in
-    let s = e.before.before in
-    held_more s.args.passes _ _ _ _ _ _ (not-false s.args.passes e.if1.false) c.before.before.push.ensures
+    held_more e.args.passes _ _ _ _ _ _ (not-false e.args.passes e.if-not-passes.false-raw) c.push.ensures
 
-pub hold-spec : {M : Type 1} → statement M
-hold-spec =
+pub hold_spec : {M : Type 1} → statement M
+hold_spec =
     tie.close
     (tie.spec
     returns

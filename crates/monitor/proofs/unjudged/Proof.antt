@@ -7,8 +7,8 @@ use Rattle.monitor.proofs.unjudged.Tie as tie
 
 returns : tie.Need-returns
 returns c =
-    let v = c.before.args.verdict in
+    let v = c.args.verdict in
     ap (λ t. record { verdict = v; margin = record { value = pos 0; window = 0 }; passes = t }) c.passes.ensures
 
-pub unjudged-spec : {M : Type 1} → statement M
-unjudged-spec = tie.close (tie.spec (λ c κs. search rules) returns)
+pub unjudged_spec : {M : Type 1} → statement M
+unjudged_spec = tie.close (tie.spec (λ c κs. search rules) returns)

@@ -3,31 +3,31 @@ use Rattle.laws.proofs.Base.{◌-◌, ◌≤◌, ◌<◌, ◌≡◌, ℕ, arith,
 use Rattle.preview.proofs.leading_passes.Statement.{statement}
 use Rattle.preview.proofs.leading_passes.Tie as tie
 
-abbrev invariant-loop : tie.invariant-loop
+abbrev invariant-loop : tie.invariant-loop-i
 invariant-loop verdicts i₀ i = (i ≤ length verdicts) × ((k : ℕ) → k < i → get_or verdicts k 0 ≡ 0)
 
-abbrev decreases-loop : tie.decreases-loop
+abbrev decreases-loop : tie.decreases-loop-i
 decreases-loop verdicts i₀ i = length verdicts - i
 
-returns : tie.Need-returns invariant-loop decreases-loop
+returns : tie.Need-returns-then-verdict-ne-PASSED invariant-loop decreases-loop
 returns c =
-    let head = c.before.before.before.loop in
-    record { within = head.invariant.0; before = head.invariant.1; behind = λ h. omega (arith, c.if1.true) }
+    let head = c.loop-i in
+    record { within = head.invariant.0; before = head.invariant.1; behind = λ h. omega (arith, c.if-verdict-ne-PASSED.true) }
 
-loop-again : tie.Need-loop-preserved invariant-loop decreases-loop
+loop-again : tie.Need-loop-i-preserved invariant-loop decreases-loop
 loop-again c =
-    let head = c.before.before.before.loop in (
-      omega (arith, c.before.before.loop-test.true),
-      below_more _ head.i head.invariant.1 c.if1.false,
+    let head = c.loop-i in (
+      omega (arith, c.loop-i-test.true),
+      below_more _ head.i head.invariant.1 c.if-verdict-ne-PASSED.false,
     )
 
-returns-2 : tie.Need-returns-2 invariant-loop decreases-loop
+returns-2 : tie.Need-returns invariant-loop decreases-loop
 returns-2 c =
-    let end = c.before.loop in
-    record { within = end.invariant.0; before = end.invariant.1; behind = λ h. absurd (omega (arith, c.loop-test.false)) }
+    let end = c.loop-i in
+    record { within = end.invariant.0; before = end.invariant.1; behind = λ h. absurd (omega (arith, c.loop-i-test.false)) }
 
-pub leading-passes-spec : {M : Type 1} → statement M
-leading-passes-spec =
+pub leading_passes_spec : {M : Type 1} → statement M
+leading_passes_spec =
     tie.close
     (tie.spec
     invariant-loop

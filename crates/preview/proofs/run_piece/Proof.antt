@@ -3,12 +3,12 @@ use Rattle.laws.proofs.Base.{rules}
 use borrow.Author.Rules.{rules}
 use Rattle.preview.proofs.run_piece.Statement.{statement}
 use Rattle.preview.proofs.run_piece.Tie as tie
-use Rattle.scripts.proofs.judge.Reads as judge-reads
+use Rattle.scripts.proofs.judge.Reads as judge_reads
 
 returns : tie.Need-returns
-returns c = (_, _, c.before.before.before.before.before.judge.ensures)
+returns c = (_, _, c.judge.ensures)
 
-pub run-piece-spec : {M : Type 1} → statement M
-run-piece-spec =
+pub run_piece_spec : {M : Type 1} → statement M
+run_piece_spec =
     tie.close
     (tie.spec (λ c. search rules) (λ c. search rules) (λ c κs. search rules) (λ c. search rules) (λ c. search rules) returns)

@@ -11,138 +11,138 @@ use Rattle.preview.proofs.Ran.{Ran, ran}
 use Rattle.preview.proofs.Turn.{Begun, not_begun, refused_is, ran_is, all_pass, Turned, turned}
 use Rattle.preview.proofs.try_counts.Statement.{statement}
 use Rattle.preview.proofs.try_counts.Tie as tie
-use Rattle.preview.proofs.leading_passes.Reads as leading-passes-reads
-use Rattle.preview.proofs.no_verdicts.Reads as no-verdicts-reads
-use Rattle.preview.proofs.run_piece.Reads as run-piece-reads
+use Rattle.preview.proofs.leading_passes.Reads as leading_passes_reads
+use Rattle.preview.proofs.no_verdicts.Reads as no_verdicts_reads
+use Rattle.preview.proofs.run_piece.Reads as run_piece_reads
 
-abbrev invariant-loop : tie.invariant-loop
+abbrev invariant-loop : tie.invariant-loop-verdicts
 invariant-loop words₀ counts verdict₀ verdicts₀ i₀ words verdict verdicts i =
     (i ≤ length counts) × (length words ≡ length words₀) × (length verdicts ≡ 1_024) × (verdict ≡ verdict₀) × Begun words₀ counts i words
 
-abbrev decreases-loop : tie.decreases-loop
+abbrev decreases-loop : tie.decreases-loop-verdicts
 decreases-loop words₀ counts verdict₀ verdicts₀ i₀ words verdict verdicts i = length counts - i
 
-loop-holds : tie.Need-loop-init invariant-loop decreases-loop
+loop-holds : tie.Need-loop-verdicts-init invariant-loop decreases-loop
 loop-holds c =
-    let s = c.before.before.before in (
+    (
       omega arith,
       refl,
-      ap length c.no-verdicts.ensures ∙ length-replicate {A = ℕ} 1_024 0,
+      ap length c.no_verdicts-verdicts.ensures ∙ length-replicate {A = ℕ} 1_024 0,
       refl,
-      not_begun s.args.words.now s.args.counts.now,
+      not_begun c.args.words.now c.args.counts.now,
     )
 
 -- ---- a piece has run, or was refused
-abbrev start : tie.After-run-piece invariant-loop decreases-loop → tie.Start invariant-loop decreases-loop
+abbrev start : tie.After-run_piece-ran invariant-loop decreases-loop → tie.Start invariant-loop decreases-loop
 start c = c.before.before.before.before.before.before.before.before
 
-abbrev head : tie.After-run-piece invariant-loop decreases-loop → tie.At-loop invariant-loop decreases-loop
+abbrev head : tie.After-run_piece-ran invariant-loop decreases-loop → tie.At-loop-verdicts invariant-loop decreases-loop
 head c = c.before.before.before.before
 
-returns : tie.Need-returns invariant-loop decreases-loop
+returns : tie.Need-returns-then-ran invariant-loop decreases-loop
 returns c =
     let ran = c.before.before.before.before in
     let s = start ran in
-    (λ i. previewed (c.if1.true i) ((head ran).loop.invariant.3 i))
+    (λ i. previewed (c.if-ran.true i) ((head ran).loop-verdicts.invariant.3 i))
     ∙ sym (preview_bad s.args.words.now s.args.counts.now s.args.verdict.now
-    (refused_is s.args.words.now s.args.counts.now (head ran).loop.words _ (head ran).loop.verdicts _ _ (head ran).loop.i
-    ran.run-piece.result (head ran).loop.invariant.4 ran.run-piece.ensures (head ran).loop.invariant.2 c.if1.true))
+    (refused_is s.args.words.now s.args.counts.now (head ran).loop-verdicts.words _ (head ran).loop-verdicts.verdicts _ _ (head ran).loop-verdicts.i
+    ran.run_piece-ran.result (head ran).loop-verdicts.invariant.4 ran.run_piece-ran.ensures (head ran).loop-verdicts.invariant.2 c.if-ran.true))
 
 -- Where it was not refused, the words that were lent are a state, and as many ticks ran as there are places or counts.
-legal : (c : tie.After-run-piece invariant-loop decreases-loop) → ¬ (c.run-piece.result ≡ minus 12) → LegalMonitorWords (start c).args.words.now
+legal : (c : tie.After-run_piece-ran invariant-loop decreases-loop) → ¬ (c.run_piece-ran.result ≡ minus 12) → LegalMonitorWords (start c).args.words.now
 legal c =
-    ran_is (start c).args.words.now (start c).args.counts.now (head c).loop.words _ (head c).loop.verdicts _ _ (head c).loop.i
-    c.run-piece.result (head c).loop.invariant.4 c.run-piece.ensures
+    ran_is (start c).args.words.now (start c).args.counts.now (head c).loop-verdicts.words _ (head c).loop-verdicts.verdicts _ _ (head c).loop-verdicts.i
+    c.run_piece-ran.result (head c).loop-verdicts.invariant.4 c.run_piece-ran.ensures
 
-piece : (c : tie.After-run-piece invariant-loop decreases-loop) → ¬ (c.run-piece.result ≡ minus 12) → let xs = (start c).args.counts.now in
-    Ran (head c).loop.words (take (length xs - (head c).loop.i) (drop (head c).loop.i xs)) (length (head c).loop.verdicts)
-    c.run-piece.new.0 c.run-piece.new.1.1.0 c.run-piece.result
+piece : (c : tie.After-run_piece-ran invariant-loop decreases-loop) → ¬ (c.run_piece-ran.result ≡ minus 12) → let xs = (start c).args.counts.now in
+    Ran (head c).loop-verdicts.words (take (length xs - (head c).loop-verdicts.i) (drop (head c).loop-verdicts.i xs)) (length (head c).loop-verdicts.verdicts)
+    c.run_piece-ran.new.0 c.run_piece-ran.new.1.1.0 c.run_piece-ran.result
 piece c h =
-    ran (head c).loop.words _ (head c).loop.verdicts _ _ c.run-piece.result c.run-piece.ensures
-    ((head c).loop.invariant.4.passed (legal c h)).state.legal
+    ran (head c).loop-verdicts.words _ (head c).loop-verdicts.verdicts _ _ c.run_piece-ran.result c.run_piece-ran.ensures
+    ((head c).loop-verdicts.invariant.4.passed (legal c h)).state.legal
 
-array-share-prefix-verdicts : tie.Need-array-share-prefix-verdicts invariant-loop decreases-loop
+array-share-prefix-verdicts : tie.Need-slice_bounds-verdicts-end invariant-loop decreases-loop
 array-share-prefix-verdicts c =
     let ran = c.before.before.before.before in
-    let whole : length ran.run-piece.new.1.1.0 ≡ 1_024 = search rules in
-    omega (arith, whole, (piece ran c.if1.false).number, (head ran).loop.invariant.2)
+    let whole : length ran.run_piece-ran.new.1.1.0 ≡ 1_024 = search rules in
+    omega (arith, whole, (piece ran c.if-ran.false).number, (head ran).loop-verdicts.invariant.2)
 
-slice-aggregate-leading-passes : tie.Need-slice-aggregate-leading-passes invariant-loop decreases-loop
+slice-aggregate-leading-passes : tie.Need-slice_bounds-leading_passes-end invariant-loop decreases-loop
 slice-aggregate-leading-passes c = sym (length-take-le _ _ (array-share-prefix-verdicts c.before))
 
 -- ---- its leading passes are counted
-abbrev piece-ran : tie.After-leading-passes invariant-loop decreases-loop → tie.After-run-piece invariant-loop decreases-loop
+abbrev piece-ran : tie.After-leading_passes-passing invariant-loop decreases-loop → tie.After-run_piece-ran invariant-loop decreases-loop
 piece-ran c = c.before.before.before.before.before.before
 
-turn : (c : tie.After-leading-passes invariant-loop decreases-loop) → let ran = piece-ran c in
-    Turned (monitor_view_of (monitor_from (start ran).args.words.now)) (start ran).args.counts.now ran.run-piece.last.0
-    ran.run-piece.last.1.1.0 (head ran).loop.i ran.run-piece.result c.leading-passes.result
+turn : (c : tie.After-leading_passes-passing invariant-loop decreases-loop) → let ran = piece-ran c in
+    Turned (monitor_view_of (monitor_from (start ran).args.words.now)) (start ran).args.counts.now ran.run_piece-ran.last.0
+    ran.run_piece-ran.last.1.1.0 (head ran).loop-verdicts.i ran.run_piece-ran.result c.leading_passes-passing.result
 turn c =
     let ran = piece-ran c in
-    let known = c.before.before.if1.false in
-    turned (monitor_view_of (monitor_from (start ran).args.words.now)) (start ran).args.counts.now (head ran).loop.words _ _
-    (head ran).loop.i (length (head ran).loop.verdicts) ran.run-piece.result c.leading-passes.result
-    ((head ran).loop.inv.4.passed (legal ran known)) (piece ran known) (omega (arith, (head ran).loop.inv.2)) (search rules)
-    c.leading-passes.ensures
+    let known = c.if-ran.false in
+    turned (monitor_view_of (monitor_from (start ran).args.words.now)) (start ran).args.counts.now (head ran).loop-verdicts.words _ _
+    (head ran).loop-verdicts.i (length (head ran).loop-verdicts.verdicts) ran.run_piece-ran.result c.leading_passes-passing.result
+    ((head ran).loop-verdicts.invariant.4.passed (legal ran known)) (piece ran known) (omega (arith, (head ran).loop-verdicts.invariant.2)) (search rules)
+    c.leading_passes-passing.ensures
 
 -- A place of the list, or the one behind it.
-fits : (c : tie.After-leading-passes invariant-loop decreases-loop) → Fits w64 (length (start (piece-ran c)).args.counts.now)
+fits : (c : tie.After-leading_passes-passing invariant-loop decreases-loop) → Fits w64 (length (start (piece-ran c)).args.counts.now)
 fits c = search rules
 
 -- A verdict that is no pass is one of the piece.
-one_of : (c : tie.After-leading-passes invariant-loop decreases-loop) → c.leading-passes.result < (piece-ran c).run-piece.result
-    → c.leading-passes.result < 1_024
-one_of c h = omega (arith, h, (piece (piece-ran c) c.before.before.if1.false).number, (head (piece-ran c)).loop.inv.2)
+one_of : (c : tie.After-leading_passes-passing invariant-loop decreases-loop) → c.leading_passes-passing.result < (piece-ran c).run_piece-ran.result
+    → c.leading_passes-passing.result < 1_024
+one_of c h = omega (arith, h, (piece (piece-ran c) c.if-ran.false).number, (head (piece-ran c)).loop-verdicts.invariant.2)
 
-mul-verdict : tie.Need-overflow-mul-verdict invariant-loop decreases-loop
-mul-verdict c = let few = one_of c.before c.if2.true in search rules
+mul-verdict : tie.Need-offset_bounds-verdicts-passing invariant-loop decreases-loop
+mul-verdict c = let few = one_of c.before c.if-passing-n.true in search rules
 
-array-read-verdict : tie.Need-array-read-verdict invariant-loop decreases-loop
-array-read-verdict c = let few = one_of c.before c.if2.true in search rules
+array-read-verdict : tie.Need-bounds-verdicts-passing invariant-loop decreases-loop
+array-read-verdict c = let few = one_of c.before c.if-passing-n.true in search rules
 
-add-result : tie.Need-overflow-add-result invariant-loop decreases-loop
+add-result : tie.Need-overflow_add-result invariant-loop decreases-loop
 add-result c = omega (arith, fits c.before, (turn c.before).within, (turn c.before).part)
 
 -- What is tried is what is promised.
-shown : (c : tie.After-leading-passes invariant-loop decreases-loop) (n v : ℕ) → let s = start (piece-ran c) in
+shown : (c : tie.After-leading_passes-passing invariant-loop decreases-loop) (n v : ℕ) → let s = start (piece-ran c) in
     Tried (monitor_view_of (monitor_from s.args.words.now)) s.args.counts.now n v
     → previewed n v ≡ preview_of s.args.words.now s.args.counts.now s.args.verdict.now
 shown c n v t =
     let s = start (piece-ran c) in
-    tried_is s.args.words.now s.args.counts.now s.args.verdict.now n v (legal (piece-ran c) c.before.before.if1.false) t
+    tried_is s.args.words.now s.args.counts.now s.args.verdict.now n v (legal (piece-ran c) c.if-ran.false) t
 
-returns-2 : tie.Need-returns-2 invariant-loop decreases-loop
-returns-2 c = shown c.before _ _ ((turn c.before).rejects c.if2.true)
+returns-2 : tie.Need-returns-then-passing-n invariant-loop decreases-loop
+returns-2 c = shown c.before _ _ ((turn c.before).rejects c.if-passing-n.true)
 
-add-i : tie.Need-overflow-add-i invariant-loop decreases-loop
+add-i : tie.Need-overflow_add-i invariant-loop decreases-loop
 add-i c = omega (arith, fits c.before, (turn c.before).within)
 
-returns-3 : tie.Need-returns-3 invariant-loop decreases-loop
+returns-3 : tie.Need-returns-then-counts-i invariant-loop decreases-loop
 returns-3 c =
     let t = turn c.before.before in
-    shown c.before.before _ _ (all_pass _ _ _ _ c.if3.true (t.goes_on c.before.if2.false))
+    shown c.before.before _ _ (all_pass _ _ _ _ c.if-counts-i.true (t.goes_on c.if-passing-n.false))
 
-loop-less : tie.Need-loop-smaller invariant-loop decreases-loop
+loop-less : tie.Need-loop-verdicts-smaller invariant-loop decreases-loop
 loop-less c =
     let t = turn c.before.before in
-    omega (arith, t.within, t.some c.if3.false)
+    omega (arith, t.within, t.some c.if-counts-i.false)
 
-loop-again : tie.Need-loop-preserved invariant-loop decreases-loop
+loop-again : tie.Need-loop-verdicts-preserved invariant-loop decreases-loop
 loop-again c =
     let t = turn c.before.before in
     let ran = piece-ran c.before.before in (
       t.within,
       search rules,
       search rules,
-      (head ran).loop.inv.3,
+      (head ran).loop-verdicts.invariant.3,
       record {
-        passed = λ l. t.goes_on c.before.if2.false;
-        same = λ n. absurd (n (legal ran c.before.before.before.before.if1.false));
+        passed = λ l. t.goes_on c.if-passing-n.false;
+        same = λ n. absurd (n (legal ran c.if-ran.false));
       },
     )
 
-pub try-counts-spec : {M : Type 1} → statement M
-try-counts-spec =
+pub try_counts_spec : {M : Type 1} → statement M
+try_counts_spec =
     tie.close
     (tie.spec
     invariant-loop

@@ -5,14 +5,14 @@ use Rattle.records.proofs.Spelling.{first_byte, field_end_told}
 use Rattle.records.proofs.ends_field.Statement.{statement}
 use Rattle.records.proofs.ends_field.Tie as tie
 
-returns : tie.Need-returns
+returns : tie.Need-returns-then-text-at-eq44
 returns c =
-    let args = c.before.before.before.args in inl (first_byte args.text.now args.at ∙ c.if1.true)
+    let args = c.args in inl (first_byte args.text.now args.at ∙ c.if-text-at-eq44.true)
 
-returns-2 : tie.Need-returns-2
+returns-2 : tie.Need-returns
 returns-2 c =
-    let args = c.before.before.before.before.args in
-    field_end_told args.text.now args.at c.ends-line.result c.before.if1.false c.ends-line.ensures
+    let args = c.args in
+    field_end_told args.text.now args.at c.ends_line.result c.if-text-at-eq44.false c.ends_line.ensures
 
-pub ends-field-spec : {M : Type 1} → statement M
-ends-field-spec = tie.close (tie.spec (λ c. search rules) returns (λ c κs. search rules) returns-2)
+pub ends_field_spec : {M : Type 1} → statement M
+ends_field_spec = tie.close (tie.spec (λ c. search rules) returns (λ c κs. search rules) returns-2)

@@ -5,19 +5,19 @@ use Rattle.records.proofs.Spelling.{no_line_end, no_return, line_end_told}
 use Rattle.records.proofs.ends_line.Statement.{statement}
 use Rattle.records.proofs.ends_line.Tie as tie
 
-returns : tie.Need-returns
-returns c = no_return c.before.before.args.text.now c.before.before.args.at c.if1.true
+returns : tie.Need-returns-then-text-at-ne13
+returns c = no_return c.args.text.now c.args.at c.if-text-at-ne13.true
 
-returns-2 : tie.Need-returns-2
-returns-2 c = no_line_end c.before.before.before.args.text.now c.before.before.before.args.at c.if2.true
+returns-2 : tie.Need-returns-then-text-at-lt2
+returns-2 c = no_line_end c.args.text.now c.args.at c.if-text-at-lt2.true
 
-returns-3 : tie.Need-returns-3
+returns-3 : tie.Need-returns
 returns-3 c =
-    let args = c.before.before.before.before.args in
-    line_end_told args.text.now args.at c.before.before.if1.false
+    let args = c.args in
+    line_end_told args.text.now args.at c.if-text-at-ne13.false
 
-pub ends-line-spec : {M : Type 1} → statement M
-ends-line-spec =
+pub ends_line_spec : {M : Type 1} → statement M
+ends_line_spec =
     tie.close
     (tie.spec
     (λ c. search rules)

@@ -9,36 +9,36 @@ use Rattle.records.specs.Steps.{first_field}
 use Rattle.records.proofs.find_field.Statement.{statement}
 use Rattle.records.proofs.find_field.Tie as tie
 
-abbrev invariant-loop : tie.invariant-loop
+abbrev invariant-loop : tie.invariant-loop-n
 invariant-loop text n₀ n = (n ≤ length text) × (first_field (first_record text) ≡ take n text ++ first_field (first_record (drop n text)))
 
-abbrev decreases-loop : tie.decreases-loop
+abbrev decreases-loop : tie.decreases-loop-n
 decreases-loop text n₀ n = length text - n
 
-abbrev text : tie.At-loop invariant-loop decreases-loop → Bytes
-text head = head.before.before.args.text.now
+abbrev text : tie.At-loop-n invariant-loop decreases-loop → Bytes
+text head = head.args.text.now
 
-returns : tie.Need-returns invariant-loop decreases-loop
+returns : tie.Need-returns-then-ends_field invariant-loop decreases-loop
 returns c =
     let head = c.before.before.before.before in
-    passed_found splits_head_fields (text head) head.loop.n head.loop.invariant.1
-    (either_true _ _ _ c.before.if1.true c.before.before.ends-field.ensures)
+    passed_found splits_head_fields (text head) head.loop-n.n head.loop-n.invariant.1
+    (either_true _ _ _ c.if-ends_field.true c.ends_field.ensures)
 
-loop-again : tie.Need-loop-preserved invariant-loop decreases-loop
+loop-again : tie.Need-loop-n-preserved invariant-loop decreases-loop
 loop-again c =
     let head = c.before.before.before in (
       search rules,
-      passed_more splits_head_fields (text head) head.loop.n head.loop.invariant.1 (omega arith)
-          (either_false _ _ _ c.if1.false c.before.ends-field.ensures),
+      passed_more splits_head_fields (text head) head.loop-n.n head.loop-n.invariant.1 (omega arith)
+          (either_false _ _ _ c.if-ends_field.false c.ends_field.ensures),
     )
 
-returns-2 : tie.Need-returns-2 invariant-loop decreases-loop
+returns-2 : tie.Need-returns invariant-loop decreases-loop
 returns-2 c =
     let head = c.before in
-    passed_all splits_head_fields (text head) head.loop.n head.loop.invariant.1 (omega arith)
+    passed_all splits_head_fields (text head) head.loop-n.n head.loop-n.invariant.1 (omega arith)
 
-pub find-field-spec : {M : Type 1} → statement M
-find-field-spec =
+pub find_field_spec : {M : Type 1} → statement M
+find_field_spec =
     tie.close
     (tie.spec
     invariant-loop

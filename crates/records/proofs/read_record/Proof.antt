@@ -12,40 +12,40 @@ use Rattle.records.proofs.read_record.Statement.{statement}
 use Rattle.records.proofs.read_record.Tie as tie
 
 -- Where a comma follows the first field: the text, the field, and what follows.
-abbrev text : tie.Else1 → Bytes
-text e = e.before.before.before.before.args.rest.now
+abbrev text : tie.Else-not-comma_at → Bytes
+text e = e.args.rest.now
 
-abbrev first : tie.Else1 → Bytes
-first e = e.before.before.find-field.result.now
+abbrev first : tie.Else-not-comma_at → Bytes
+first e = e.find_field-window.result.now
 
-abbrev rest : tie.Else1 → Bytes
+abbrev rest : tie.Else-not-comma_at → Bytes
 rest e = after (text e) (first e)
 
-comma : (e : tie.Else1) → CommaAt (text e) (length (first e))
-comma e = told_yes _ e.before.comma-at.result e.if1.false e.before.comma-at.ensures
+comma : (e : tie.Else-not-comma_at) → CommaAt (text e) (length (first e))
+comma e = told_yes _ e.comma_at.result e.if-not-comma_at.false-raw e.comma_at.ensures
 
 -- Where one follows the second too.
-abbrev above : tie.Else2 → tie.Else1
+abbrev above : tie.Else-not-comma_at-2 → tie.Else-not-comma_at
 above k = k.before.before.before.before
 
-abbrev second : tie.Else2 → Bytes
-second k = k.before.before.find-field2.result.now
+abbrev second : tie.Else-not-comma_at-2 → Bytes
+second k = k.find_field-least.result.now
 
-comma-2 : (k : tie.Else2) → CommaAt (rest (above k)) (length (second k))
-comma-2 k = told_yes _ k.before.comma-at2.result k.if2.false k.before.comma-at2.ensures
+comma-2 : (k : tie.Else-not-comma_at-2) → CommaAt (rest (above k)) (length (second k))
+comma-2 k = told_yes _ k.comma_at-2.result k.if-not-comma_at-2.false-raw k.comma_at-2.ensures
 
 -- Where none follows the third.
-abbrev last : tie.Else3 → tie.Else2
+abbrev last : tie.Else-comma_at → tie.Else-not-comma_at-2
 last d = d.before.before.before.before
 
-abbrev third : tie.Else3 → Bytes
-third d = d.before.before.find-field3.result.now
+abbrev third : tie.Else-comma_at → Bytes
+third d = d.find_field-most.result.now
 
-no-comma : (d : tie.Else3) → ¬ CommaAt (after (rest (above (last d))) (second (last d))) (length (third d))
-no-comma d = either_false _ _ d.before.comma-at3.result d.if3.false d.before.comma-at3.ensures
+no-comma : (d : tie.Else-comma_at) → ¬ CommaAt (after (rest (above (last d))) (second (last d))) (length (third d))
+no-comma d = either_false _ _ d.comma_at-3.result d.if-comma_at.false d.comma_at-3.ensures
 
 -- How many bytes the three have, with the commas.
-whole : (d : tie.Else3)
+whole : (d : tie.Else-comma_at)
     → length (first (above (last d))) + 1 + length (second (last d)) + 1 + length (third d)
     ≡ length (first_record (text (above (last d))))
 whole d =
@@ -53,48 +53,48 @@ whole d =
     omega (
       arith,
       bytes_more (text e) (first e) e.before.before.find-field.ensures (comma e),
-      bytes_more (rest e) (second (last d)) (last d).before.before.find-field2.ensures (comma-2 (last d)),
-      bytes_one _ _ d.before.before.find-field3.ensures (no-comma d),
+      bytes_more (rest e) (second (last d)) (last d).find_field-least.ensures (comma-2 (last d)),
+      bytes_one _ _ d.find_field-most.ensures (no-comma d),
     )
 
-returns : tie.Need-returns
+returns : tie.Need-returns-then-not-comma_at
 returns c =
     one_field _ _
-    (fields_one _ _ c.before.before.find-field.ensures
-    (told_no _ c.before.comma-at.result c.if1.true c.before.comma-at.ensures))
+    (fields_one _ _ c.find_field-window.ensures
+    (told_no _ c.comma_at.result c.if-not-comma_at.true-raw c.comma_at.ensures))
 
-returns-2 : tie.Need-returns-2
+returns-2 : tie.Need-returns-then-not-comma_at-2
 returns-2 c =
     let e = c.before.before.before.before in
-    two_fields _ _ _ _ (fields_more (text e) (first e) e.before.before.find-field.ensures (comma e))
-    (fields_one _ _ c.before.before.find-field2.ensures
-    (told_no _ c.before.comma-at2.result c.if2.true c.before.comma-at2.ensures))
+    two_fields _ _ _ _ (fields_more (text e) (first e) e.find_field-window.ensures (comma e))
+    (fields_one _ _ c.find_field-least.ensures
+    (told_no _ c.comma_at-2.result c.if-not-comma_at-2.true-raw c.comma_at-2.ensures))
 
-returns-3 : tie.Need-returns-3
+returns-3 : tie.Need-returns-then-comma_at
 returns-3 c =
     let k = c.before.before.before.before in
     let e = above k in
-    more_fields _ _ _ _ (fields_more (text e) (first e) e.before.before.find-field.ensures (comma e)) _ _
-    (fields_more (rest e) (second k) k.before.before.find-field2.ensures (comma-2 k)) _
-    (fields_more _ _ c.before.before.find-field3.ensures
-    (either_true _ _ c.before.comma-at3.result c.if3.true c.before.comma-at3.ensures))
+    more_fields _ _ _ _ (fields_more (text e) (first e) e.find_field-window.ensures (comma e)) _ _
+    (fields_more (rest e) (second k) k.find_field-least.ensures (comma-2 k)) _
+    (fields_more _ _ c.find_field-most.ensures
+    (either_true _ _ c.comma_at-3.result c.if-comma_at.true c.comma_at-3.ensures))
 
-returns-4 : tie.Need-returns-4
+returns-4 : tie.Need-returns
 returns-4 c =
     let d = c.before in
     let k = last d in
     let e = above k in
-    three_fields _ _ _ _ (fields_more (text e) (first e) e.before.before.find-field.ensures (comma e)) _ _
-    (fields_more (rest e) (second k) k.before.before.find-field2.ensures (comma-2 k)) _
-    (fields_one _ _ d.before.before.find-field3.ensures (no-comma d))
-    (whole d) c.parse-fields.result c.parse-fields.ensures
+    three_fields _ _ _ _ (fields_more (text e) (first e) e.find_field-window.ensures (comma e)) _ _
+    (fields_more (rest e) (second k) k.find_field-least.ensures (comma-2 k)) _
+    (fields_one _ _ d.find_field-most.ensures (no-comma d))
+    (whole d) c.parse_fields.result c.parse_fields.ensures
 
 -- The sum fits, as the record is no longer than the text.
-fits : (d : tie.Else3) → length (first_record (text (above (last d)))) ≤ length (text (above (last d)))
+fits : (d : tie.Else-comma_at) → length (first_record (text (above (last d)))) ≤ length (text (above (last d)))
 fits d = record_short (text (above (last d)))
 
-pub read-record-spec : {M : Type 1} → statement M
-read-record-spec =
+pub read_record_spec : {M : Type 1} → statement M
+read_record_spec =
     tie.close
     (tie.spec
     (λ c κs. search rules)

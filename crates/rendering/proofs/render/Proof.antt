@@ -11,21 +11,21 @@ use Rattle.rendering.proofs.render.Tie as tie
 
 -- What the questions tell, in an arm of the match.
 abbrev pair : tie.After-ask → AnyPair
-pair k = let args = k.before.before.before.args in with_mark args.upper.now args.lower.now args.unlimited
+pair k = let args = k.args in with_mark args.upper.now args.lower.now args.unlimited
 
 told : (k : tie.After-ask) (a : Asked) → k.ask.result ≡ a → Found (pair k) a
 told k a e = subst (Found (pair k)) e (found (pair k) k.ask.result k.ask.ensures)
 
-returns : tie.Need-returns
-returns c = c.written.ensures ∙ sym (written_is _ (told c.before.before.before _ c.before.enum_told.given.1))
+returns : tie.Need-returns-in-Passes
+returns c = c.written.ensures ∙ sym (written_is _ (told c.before.before.before _ c.in-Passes.is))
 
-pub render-spec : {M : Type 1} → statement M
-render-spec =
+pub render_spec : {M : Type 1} → statement M
+render_spec =
     tie.close
     (tie.spec
     (λ c κs. search rules)
     (λ c. search rules)
-    (λ c κs. told c.before.before _ c.enum_told.given.1)
+    (λ c κs. told c.before.before _ c.in-Passes.is)
     (λ c. search rules)
     (λ c κs. search rules)
     (λ c. search rules)
@@ -33,6 +33,6 @@ render-spec =
     (λ c. search rules)
     (λ c κs. search rules)
     returns
-    (λ c. IsRefused-as _ _ _ c.refused.ensures (told c.before.before.before _ c.before.enum-told2.given.1))
-    (λ c. IsRefused-as _ _ _ c.refused2.ensures (told c.before.before.before _ c.before.enum-told3.given.1))
-    (λ c. IsRefused-as _ _ _ c.refused3.ensures (told c.before.before.before _ c.before.enum-told4.given.1)))
+    (λ c. IsRefused-as _ _ _ c.refused.ensures (told c.before.before.before _ c.in-UpperLength.is))
+    (λ c. IsRefused-as _ _ _ c.refused-in-LowerLength.ensures (told c.before.before.before _ c.in-LowerLength.is))
+    (λ c. IsRefused-as _ _ _ c.refused-in-FigureLimit.ensures (told c.before.before.before _ c.in-FigureLimit.is)))

@@ -13,49 +13,49 @@ use Rattle.rendering.proofs.Laws.{text_to, text_next, text_whole, sizes_with, wi
 use Rattle.rendering.proofs.write_pair.Statement.{statement}
 use Rattle.rendering.proofs.write_pair.Tie as tie
 
-abbrev invariant-loop : tie.invariant-loop
+abbrev invariant-loop : tie.invariant-loop-n
 invariant-loop upper lower unlimited out₀ at₀ n₀ out at n =
     (n ≤ length upper) × (length out ≡ length out₀)
     × ((found : Bytes) → Wrote found 0 (text_to (with_mark upper lower unlimited) 0) out₀ at₀
     → Wrote found 0 (text_to (with_mark upper lower unlimited) n) out at)
 
-abbrev decreases-loop : tie.decreases-loop
+abbrev decreases-loop : tie.decreases-loop-n
 decreases-loop upper lower unlimited out₀ at₀ n₀ out at n = length upper - n
 
 -- The function's start, the pair, and what is written before a turn.
-abbrev start : tie.At-loop invariant-loop decreases-loop → tie.Start invariant-loop decreases-loop
+abbrev start : tie.At-loop-n invariant-loop decreases-loop → tie.Start invariant-loop decreases-loop
 start k = k.before.before.before.before.before.before.before.before.before
 
-abbrev pair : tie.At-loop invariant-loop decreases-loop → AnyPair
+abbrev pair : tie.At-loop-n invariant-loop decreases-loop → AnyPair
 pair k = with_mark (start k).args.upper.now (start k).args.lower.now (start k).args.unlimited
 
 so_far
-    : (k : tie.At-loop invariant-loop decreases-loop) → Wrote (start k).args.out.now 0 (text_to (pair k) k.loop.n) k.loop.out k.loop.at
+    : (k : tie.At-loop-n invariant-loop decreases-loop) → Wrote (start k).args.out.now 0 (text_to (pair k) k.loop-n.n) k.loop-n.out k.loop-n.at
 unfolding fold
 so_far k = k.loop.invariant.2 _ k.before.before.before.bytes.ensures
 
-sizes : (k : tie.At-loop invariant-loop decreases-loop)
+sizes : (k : tie.At-loop-n invariant-loop decreases-loop)
     → (length (start k).args.upper.now ≤ 256) × (length (start k).args.lower.now ≡ length (start k).args.upper.now)
 sizes k = sizes_with (start k).args.upper.now (start k).args.lower.now (start k).args.unlimited (start k).requires.0
 
-record-requires : tie.Need-record-requires invariant-loop decreases-loop
+record-requires : tie.Need-record-at-requires invariant-loop decreases-loop
 record-requires c κs =
     let k = c.before.before.before.before in
     let args = (start k).args in
     let all = (start k).requires.0 in
-    let (u, v) = next_within args.upper.now args.lower.now args.unlimited all k.loop.n (omega arith) in
-    let inside = within_with args.upper.now args.lower.now args.unlimited k.loop.n (omega arith) in
-    next_fits (pair k) all k.loop.n _ _ (most_if (not args.unlimited) (get_or args.upper.now k.loop.n 0)) _ _ inside
+    let (u, v) = next_within args.upper.now args.lower.now args.unlimited all k.loop-n.n (omega arith) in
+    let inside = within_with args.upper.now args.lower.now args.unlimited k.loop-n.n (omega arith) in
+    next_fits (pair k) all k.loop-n.n _ _ (most_if (not args.unlimited) (get_or args.upper.now k.loop-n.n 0)) _ _ inside
     (omega arith) u v (so_far k).place (omega arith)
 
-loop-again : tie.Need-loop-preserved invariant-loop decreases-loop
+loop-again : tie.Need-loop-n-preserved invariant-loop decreases-loop
 loop-again c =
     let k = c.before.before.before.before.before.before.before in
     let args = (start k).args in
     let next = c.before.before.«record».ensures in (
       search rules,
       search rules,
-      λ found w. rw (text_next args.upper.now args.lower.now args.unlimited) (wrote_more (k.loop.invariant.2 found w) next),
+      λ found w. rw (text_next args.upper.now args.lower.now args.unlimited) (wrote_more (k.loop-n.invariant.2 found w) next),
     )
 
 returns : tie.Need-returns invariant-loop decreases-loop
@@ -63,10 +63,10 @@ returns c =
     let k = c.before in
     let args = (start k).args in
     let h = horizon_with args.upper.now args.lower.now args.unlimited in
-    rw (text_whole (pair k) k.loop.n (omega arith)) (so_far k)
+    rw (text_whole (pair k) k.loop-n.n (omega arith)) (so_far k)
 
-pub write-pair-spec : {M : Type 1} → statement M
-write-pair-spec =
+pub write_pair_spec : {M : Type 1} → statement M
+write_pair_spec =
     tie.close
     (tie.spec
     invariant-loop

@@ -8,8 +8,7 @@ use Rattle.rendering.proofs.written.Tie as tie
 
 returns : tie.Need-returns
 returns c =
-    let blank = c.before.before.before in
-    written_as _ _ _ _ (text_fits _ blank.before.before.before.requires) blank.blank.ensures c.before.write-pair.ensures
+    written_as _ _ _ _ (text_fits _ c.requires) c.blank-bytes.ensures c.write_pair-length.ensures
 
-pub written-spec : {M : Type 1} → statement M
-written-spec = tie.close (tie.spec (λ c κs. search rules) (λ c. search rules) (λ c κs. search rules) returns)
+pub written_spec : {M : Type 1} → statement M
+written_spec = tie.close (tie.spec (λ c κs. search rules) (λ c. search rules) (λ c κs. search rules) returns)

@@ -8,8 +8,8 @@ use Rattle.report.proofs.refusal_output.Tie as tie
 
 returns : tie.Need-returns
 returns c =
-    let told = c.before.render-refusal in
-    text_shown told.result _ c.output-of.ensures (refusal_line c.before.before.args.number) told.ensures
+    let told = c.render_refusal in
+    text_shown told.result _ c.output_of.ensures (refusal_line c.args.number) told.ensures
 
-pub refusal-output-spec : {M : Type 1} → statement M
-refusal-output-spec = tie.close (tie.spec (λ c κs. search rules) (λ c κs. search rules) returns)
+pub refusal_output_spec : {M : Type 1} → statement M
+refusal_output_spec = tie.close (tie.spec (λ c κs. search rules) (λ c κs. search rules) returns)

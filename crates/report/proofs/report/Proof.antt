@@ -8,21 +8,20 @@ use Rattle.constraints.proofs.Streams.{read_within}
 use Rattle.report.proofs.report.Statement.{statement}
 use Rattle.report.proofs.report.Tie as tie
 
-report-reading-requires : tie.Need-report-reading-requires
+report-reading-requires : tie.Need-report_reading-requires
 report-reading-requires c κs =
-    let told = c.before.before.before.before.read in
+    let told = c.read-reading in
     (search rules, read_within _ _ _ (ap (λ a. a.horizon) told.ensures))
 
 returns : tie.Need-returns
 unfolding output
 returns c =
     let k = c.before.before.before.before.before in
-    let z = k.before.before.before in
-    into_zeros (reading z.before.before.before.args.text.now) (λ a. reported (after_reading a)) _ _ _ _
-    z.before.zeros.ensures z.zeros2.ensures k.read.ensures c.report-reading.ensures
+    into_zeros (reading k.args.text.now) (λ a. reported (after_reading a)) _ _ _ _
+    k.zeros-upper.ensures k.zeros-lower.ensures k.read-reading.ensures c.report_reading.ensures
 
-pub report-spec : {M : Type 1} → statement M
-report-spec =
+pub report_spec : {M : Type 1} → statement M
+report_spec =
     tie.close
     (tie.spec
     (λ c κs. search rules)

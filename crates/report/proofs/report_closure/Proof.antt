@@ -5,21 +5,19 @@ use Rattle.report.proofs.Answered.{line_told, pair_shown}
 use Rattle.report.proofs.report_closure.Statement.{statement}
 use Rattle.report.proofs.report_closure.Tie as tie
 
-returns : tie.Need-returns
+returns : tie.Need-returns-then-number-gt0
 returns c =
-    let k = c.before.before in
-    line_told _ _ _ _ (k.rendering-number.ensures ∙ ap (λ a. a.number) k.before.render.ensures) c.before.if1.true
-    c.refusal-output.ensures
+    line_told _ _ _ _ (c.rendering_number-number.ensures ∙ ap (λ a. a.number) c.render-rendered.ensures) c.if-number-gt0.true
+    c.refusal_output.ensures
 
-returns-2 : tie.Need-returns-2
+returns-2 : tie.Need-returns
 returns-2 c =
-    let k = c.before.before in
-    let told = k.before.render in
-    pair_shown told.result _ c.output-of.ensures _ told.ensures
-    (omega (arith, k.rendering-number.ensures, c.before.if1.false))
+    let told = c.render-rendered in
+    pair_shown told.result _ c.output_of.ensures _ told.ensures
+    (omega (arith, c.rendering_number-number.ensures, c.if-number-gt0.false))
 
-pub report-closure-spec : {M : Type 1} → statement M
-report-closure-spec =
+pub report_closure_spec : {M : Type 1} → statement M
+report_closure_spec =
     tie.close
     (tie.spec
     (λ c κs. search rules)

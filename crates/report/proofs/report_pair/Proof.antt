@@ -12,13 +12,12 @@ returns : tie.Need-returns
 returns c =
     let k = c.before.before.before.before.before in
     let z = k.before.before.before in
-    let s = z.before.before.before.before in
-    into_zeros (closing (with_mark s.args.upper.now s.args.lower.now s.args.unlimited))
-    (λ a. reported (after_closing (length s.args.upper.now) a)) _ _ _ _
-    z.before.zeros.ensures z.zeros2.ensures k.close.ensures c.report-closing.ensures
+    into_zeros (closing (with_mark z.args.upper.now z.args.lower.now z.args.unlimited))
+    (λ a. reported (after_closing (length z.args.upper.now) a)) _ _ _ _
+    z.zeros-closed_upper.ensures z.zeros-closed_lower.ensures k.close-closing.ensures c.report_closing.ensures
 
-pub report-pair-spec : {M : Type 1} → statement M
-report-pair-spec =
+pub report_pair_spec : {M : Type 1} → statement M
+report_pair_spec =
     tie.close
     (tie.spec
     (λ c κs. search rules)

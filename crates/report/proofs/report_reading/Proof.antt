@@ -5,34 +5,34 @@ use Rattle.report.proofs.Answered.{line_told, next_told, pair_told}
 use Rattle.report.proofs.report_reading.Statement.{statement}
 use Rattle.report.proofs.report_reading.Tie as tie
 
-returns : tie.Need-returns
-returns c = line_told _ _ _ _ c.before.before.reading-number.ensures c.before.if1.true c.refusal-output.ensures
+returns : tie.Need-returns-then-number-gt0
+returns c = line_told _ _ _ _ c.reading_number-number.ensures c.if-number-gt0.true c.refusal_output.ensures
 
 -- Where a pair was read: its horizon is within the lists.
-abbrev start : tie.After-reading-horizon → tie.Start
+abbrev start : tie.After-reading_horizon-horizon → tie.Start
 start k = k.before.before.before.before.before
 
-uppers : (k : tie.After-reading-horizon) → k.reading-horizon.result ≤ length (start k).args.upper.now
-uppers k = omega (arith, k.reading-horizon.ensures, (start k).requires)
+uppers : (k : tie.After-reading_horizon-horizon) → k.reading_horizon-horizon.result ≤ length (start k).args.upper.now
+uppers k = omega (arith, k.reading_horizon-horizon.ensures, (start k).requires)
 
-lowers : (k : tie.After-reading-horizon) → k.reading-horizon.result ≤ length (start k).args.lower.now
-lowers k = omega (arith, k.reading-horizon.ensures, (start k).requires)
+lowers : (k : tie.After-reading_horizon-horizon) → k.reading_horizon-horizon.result ≤ length (start k).args.lower.now
+lowers k = omega (arith, k.reading_horizon-horizon.ensures, (start k).requires)
 
-report-pair-requires : tie.Need-report-pair-requires
+report-pair-requires : tie.Need-report_pair-requires
 report-pair-requires c κs =
     let k = c.before.before.before in
-    let part = length-take-le k.reading-horizon.result (start k).args.upper.now (uppers k) in
-    omega (arith, part, k.reading-horizon.ensures, (start k).requires)
+    let part = length-take-le k.reading_horizon-horizon.result (start k).args.upper.now (uppers k) in
+    omega (arith, part, k.reading_horizon-horizon.ensures, (start k).requires)
 
-returns-2 : tie.Need-returns-2
+returns-2 : tie.Need-returns
 returns-2 c =
     let m = c.before.before.before in
     let k = m.before in
-    next_told _ _ _ _ k.before.before.reading-number.ensures k.before.if1.false
-    (pair_told _ _ _ _ _ _ _ k.reading-horizon.ensures m.reading-mark.ensures (uppers k) c.report-pair.ensures)
+    next_told _ _ _ _ k.reading_number-number.ensures k.if-number-gt0.false
+    (pair_told _ _ _ _ _ _ _ k.reading_horizon-horizon.ensures m.reading_mark-unlimited.ensures (uppers k) c.report_pair.ensures)
 
-pub report-reading-spec : {M : Type 1} → statement M
-report-reading-spec =
+pub report_reading_spec : {M : Type 1} → statement M
+report_reading_spec =
     tie.close
     (tie.spec
     (λ c κs. search rules)

@@ -4,31 +4,27 @@ use Rattle.scripts.proofs.Given.{judged_asked, judged_both, judged_all_lem}
 use borrow.Author.Rules.{rules}
 use Rattle.scripts.proofs.judge_legal.Statement.{statement}
 use Rattle.scripts.proofs.judge_legal.Tie as tie
-use Rattle.scripts.proofs.judging.judge_first.Reads as judge-first-reads
-use Rattle.scripts.proofs.judging.judge_rest.Reads as judge-rest-reads
+use Rattle.scripts.proofs.judging.judge_first.Reads as judge_first_reads
+use Rattle.scripts.proofs.judging.judge_rest.Reads as judge_rest_reads
 
-judge-rest-requires-2 : tie.Need-judge-rest-requires-2
+judge-rest-requires-2 : tie.Need-judge_rest-requires-then-sure-counts
 judge-rest-requires-2 c κs =
-    let f = c.before.before.before.before.before.before.before.before.before in let s = c.before.before.before.before.before.before.before.before.before.before.before.before.before.before.before.before in
-    judged_asked s.args.state.now s.args.counts.now s.args.verdicts.now s.args.margins.now s.pre.0 s.pre.1
-    (omega (arith, f.before.before.before.if1.false)) f.judge-first.result _ _ f.judge-first.ensures
+    judged_asked c.args.state.now c.args.counts.now c.args.verdicts.now c.args.margins.now c.requires.0 c.requires.1
+    (omega (arith, c.if-margins-gt0.false)) c.judge_first-sure.result _ _ c.judge_first-sure.ensures
 
-returns-2 : tie.Need-returns-2
+returns-2 : tie.Need-returns-then-sure-counts
 returns-2 c =
-    let f = c.before.before.before.before.before.before.before.before.before.before.before.before.before.before.before in
-    let s = c.before.before.before.before.before.before.before.before.before.before.before.before.before.before.before.before.before.before.before.before.before.before in
-    judged_both s.args.state.now s.args.counts.now s.args.verdicts.now s.args.margins.now s.pre.0 s.pre.1
-    (omega (arith, f.before.before.before.if1.false)) f.judge-first.result _ _ f.judge-first.ensures _ _ _
-    c.before.before.before.before.before.judge-rest2.ensures
+    judged_both c.args.state.now c.args.counts.now c.args.verdicts.now c.args.margins.now c.requires.0 c.requires.1
+    (omega (arith, c.if-margins-gt0.false)) c.judge_first-sure.result _ _ c.judge_first-sure.ensures _ _ _
+    c.judge_rest-then-sure-counts.ensures
 
-returns-3 : tie.Need-returns-3
+returns-3 : tie.Need-returns-else-sure-counts
 returns-3 c =
-    let f = c.before.before.before.before.before in let s = c.before.before.before.before.before.before.before.before.before.before.before.before in
-    judged_all_lem s.args.state.now s.args.counts.now s.args.verdicts.now s.args.margins.now s.pre.0 s.pre.1
-    (omega (arith, f.before.before.before.if1.false)) f.judge-first.result _ _ f.judge-first.ensures c.if2.false
+    judged_all_lem c.args.state.now c.args.counts.now c.args.verdicts.now c.args.margins.now c.requires.0 c.requires.1
+    (omega (arith, c.if-margins-gt0.false)) c.judge_first-sure.result _ _ c.judge_first-sure.ensures c.if-sure-counts.false
 
-pub judge-legal-spec : {M : Type 1} → statement M
-judge-legal-spec =
+pub judge_legal_spec : {M : Type 1} → statement M
+judge_legal_spec =
     tie.close
     (tie.spec
     (λ c κs. search rules)

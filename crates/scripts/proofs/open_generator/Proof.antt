@@ -13,20 +13,20 @@ use Rattle.scripts.proofs.Opened.{generator_asked, generator_refused, generator_
 use borrow.Author.Rules.{rules}
 use Rattle.scripts.proofs.open_generator.Statement.{statement}
 use Rattle.scripts.proofs.open_generator.Tie as tie
-use Rattle.generator.proofs.Generator.open.Reads as open-reads
-use Rattle.scripts.proofs.generator_opening_number.Reads as generator-opening-number-reads
-use Rattle.scripts.proofs.words.write_pair.Reads as write-pair-reads
+use Rattle.generator.proofs.Generator.open.Reads as open_reads
+use Rattle.scripts.proofs.generator_opening_number.Reads as generator_opening_number_reads
+use Rattle.scripts.proofs.words.write_pair.Reads as write_pair_reads
 
-abbrev start : tie.After-generator-opening-number → tie.Start
+abbrev start : tie.After-generator_opening_number-number → tie.Start
 start n = n.before.before.before.before.before
 
 -- What the opening answered, as a number.
-told : (n : tie.After-generator-opening-number) → let a = (start n).args in
-    n.generator-opening-number.result ≡ reply_number (generator_opening (with_mark a.upper.now a.lower.now a.unlimited))
-told n = n.generator-opening-number.ensures ∙ ap reply_number n.before.«open».ensures.answer
+told : (n : tie.After-generator_opening_number-number) → let a = (start n).args in
+    n.generator_opening_number-number.result ≡ reply_number (generator_opening (with_mark a.upper.now a.lower.now a.unlimited))
+told n = n.generator_opening_number-number.ensures ∙ ap reply_number n.before.«open».ensures.answer
 
 -- Both lists fit, where it is not refused.
-fits : (n : tie.After-generator-opening-number) → n.generator-opening-number.result ≡ 0 → let a = (start n).args in PairFits
+fits : (n : tie.After-generator_opening_number-number) → n.generator_opening_number-number.result ≡ 0 → let a = (start n).args in PairFits
     a.upper.now a.lower.now
 fits n z =
     let a = (start n).args in
@@ -35,29 +35,29 @@ fits n z =
     (yes_parts (pair_questions p) (question15 p ∷ []) (generator_asked a.upper.now a.lower.now a.unlimited _ a.state.now
     (told n) z)).0
 
-returns : tie.Need-returns
+returns : tie.Need-returns-then-number-ne0
 returns c =
     let n = c.before in let a = (start n).args in generator_refused a.upper.now a.lower.now a.unlimited _ a.state.now
-    (told n) c.if1.true
+    (told n) c.if-number-ne0.true
 
-returns-2 : tie.Need-returns-2
+returns-2 : tie.Need-returns-then-state-ne-GENERATOR_WORDS
 returns-2 c =
     let n = c.before.before in let a = (start n).args in generator_long a.upper.now a.lower.now a.unlimited _ a.state.now
-    (told n) c.before.if1.false c.if2.true
+    (told n) c.if-number-ne0.false c.if-state-ne-GENERATOR_WORDS.true
 
-write-pair-requires : tie.Need-write-pair-requires
-write-pair-requires c κs = let n = c.before.before.before in (c.before.if2.false, fits n c.before.before.if1.false)
+write-pair-requires : tie.Need-write_pair-requires
+write-pair-requires c κs = let n = c.before.before.before in (c.if-state-ne-GENERATOR_WORDS.false, fits n c.if-number-ne0.false)
 
-returns-3 : tie.Need-returns-3
+returns-3 : tie.Need-returns
 returns-3 c =
     let n = c.before.before.before.before.before.before in
     let a = (start n).args in
     generator_begun a.upper.now a.lower.now a.unlimited _ a.state.now (told n)
-    c.before.before.before.before.before.if1.false c.before.before.before.before.if2.false _
-    c.before.before.write-pair.ensures
+    c.if-number-ne0.false c.if-state-ne-GENERATOR_WORDS.false _
+    c.write_pair.ensures
 
-pub open-generator-spec : {M : Type 1} → statement M
-open-generator-spec =
+pub open_generator_spec : {M : Type 1} → statement M
+open_generator_spec =
     tie.close
     (tie.spec
     (λ c κs. search rules)

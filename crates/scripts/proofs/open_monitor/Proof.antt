@@ -13,20 +13,20 @@ use Rattle.scripts.proofs.Opened.{monitor_asked, monitor_refused, monitor_long, 
 use borrow.Author.Rules.{rules}
 use Rattle.scripts.proofs.open_monitor.Statement.{statement}
 use Rattle.scripts.proofs.open_monitor.Tie as tie
-use Rattle.monitor.proofs.Monitor.open.Reads as open-reads
-use Rattle.scripts.proofs.monitor_opening_number.Reads as monitor-opening-number-reads
-use Rattle.scripts.proofs.words.write_monitor.Reads as write-monitor-reads
+use Rattle.monitor.proofs.Monitor.open.Reads as open_reads
+use Rattle.scripts.proofs.monitor_opening_number.Reads as monitor_opening_number_reads
+use Rattle.scripts.proofs.words.write_monitor.Reads as write_monitor_reads
 
-abbrev start : tie.After-monitor-opening-number → tie.Start
+abbrev start : tie.After-monitor_opening_number-number → tie.Start
 start n = n.before.before.before.before.before.before
 
 -- What the opening answered, as a number.
-told : (n : tie.After-monitor-opening-number) → let a = (start n).args in
-    n.monitor-opening-number.result ≡ reply_number (monitor_opening (with_mark a.upper.now a.lower.now a.unlimited))
-told n = n.monitor-opening-number.ensures ∙ ap reply_number n.before.before.«open».ensures.answer
+told : (n : tie.After-monitor_opening_number-number) → let a = (start n).args in
+    n.monitor_opening_number-number.result ≡ reply_number (monitor_opening (with_mark a.upper.now a.lower.now a.unlimited))
+told n = n.monitor_opening_number-number.ensures ∙ ap reply_number n.before.before.«open».ensures.answer
 
 -- Both lists fit, where it is not refused.
-fits : (n : tie.After-monitor-opening-number) → n.monitor-opening-number.result ≡ 0 → let a = (start n).args in PairFits a.upper.now
+fits : (n : tie.After-monitor_opening_number-number) → n.monitor_opening_number-number.result ≡ 0 → let a = (start n).args in PairFits a.upper.now
     a.lower.now
 fits n z =
     let a = (start n).args in
@@ -35,34 +35,34 @@ fits n z =
     (yes_parts (pair_questions p) (question5 p ∷ []) (monitor_asked a.upper.now a.lower.now a.unlimited _ a.state.now
     (told n) z)).0
 
-returns : tie.Need-returns
+returns : tie.Need-returns-then-number-ne0
 returns c =
     let n = c.before in let a = (start n).args in monitor_refused a.upper.now a.lower.now a.unlimited _ a.state.now
-    (told n) c.if1.true
+    (told n) c.if-number-ne0.true
 
-returns-2 : tie.Need-returns-2
+returns-2 : tie.Need-returns-then-state-ne-MONITOR_WORDS
 returns-2 c =
     let n = c.before.before in let a = (start n).args in monitor_long a.upper.now a.lower.now a.unlimited _ a.state.now
-    (told n) c.before.if1.false c.if2.true
+    (told n) c.if-number-ne0.false c.if-state-ne-MONITOR_WORDS.true
 
-write-monitor-requires : tie.Need-write-monitor-requires
-write-monitor-requires c κs = let n = c.before.before.before in (c.before.if2.false, fits n c.before.before.if1.false)
+write-monitor-requires : tie.Need-write_monitor-requires
+write-monitor-requires c κs = let n = c.before.before.before in (c.if-state-ne-MONITOR_WORDS.false, fits n c.if-number-ne0.false)
 
-returns-3 : tie.Need-returns-3
+returns-3 : tie.Need-returns
 returns-3 c =
     let n = c.before.before.before.before.before.before in
     let a = (start n).args in
     let p = with_mark a.upper.now a.lower.now a.unlimited in
     monitor_begun a.upper.now a.lower.now a.unlimited _ a.state.now (told n)
-    c.before.before.before.before.before.if1.false c.before.before.before.before.if2.false _
-    (c.before.before.write-monitor.ensures
+    c.if-number-ne0.false c.if-state-ne-MONITOR_WORDS.false _
+    (c.write_monitor.ensures
     ∙ ap (λ t. opened_words (with_mark a.upper.now a.lower.now a.unlimited) ++ t)
     (closed_is a.upper.now a.lower.now a.unlimited n.before.before.«open».result.state
     (subst (λ o. MonitorBegun o p n.before.before.«open».result.state)
-    (opened_tt p _ (told n) c.before.before.before.before.before.if1.false) n.before.before.«open».ensures.state)))
+    (opened_tt p _ (told n) c.if-number-ne0.false) n.before.before.«open».ensures.state)))
 
-pub open-monitor-spec : {M : Type 1} → statement M
-open-monitor-spec =
+pub open_monitor_spec : {M : Type 1} → statement M
+open_monitor_spec =
     tie.close
     (tie.spec
     (λ c κs. search rules)

@@ -5,11 +5,11 @@ use Rattle.scripts.specs.Scripts.{range_number}
 use Rattle.scripts.proofs.range_number.Statement.{statement}
 use Rattle.scripts.proofs.range_number.Tie as tie
 
-returns : tie.Need-returns
-returns c = ap (λ a. range_number (range_reply a)) (sym c.before.admissible.given.1)
+returns : tie.Need-returns-in-Range
+returns c = ap (λ a. range_number (range_reply a)) (sym c.in-Range.is)
 
-pub range-number-spec : {M : Type 1} → statement M
-range-number-spec =
+pub range_number_spec : {M : Type 1} → statement M
+range_number_spec =
     tie.close
     (tie.spec
     (λ c. search rules)

@@ -4,29 +4,26 @@ use Rattle.scripts.proofs.Given.{sent_asked, sent_both, sent_all_lem}
 use borrow.Author.Rules.{rules}
 use Rattle.scripts.proofs.send_legal.Statement.{statement}
 use Rattle.scripts.proofs.send_legal.Tie as tie
-use Rattle.scripts.proofs.generating.send_first.Reads as send-first-reads
-use Rattle.scripts.proofs.generating.send_rest.Reads as send-rest-reads
+use Rattle.scripts.proofs.generating.send_first.Reads as send_first_reads
+use Rattle.scripts.proofs.generating.send_rest.Reads as send_rest_reads
 
-send-rest-requires : tie.Need-send-rest-requires
+send-rest-requires : tie.Need-send_rest-requires
 send-rest-requires c κs =
-    let f = c.before.before.before.before.before.before.before.before in let s = c.before.before.before.before.before.before.before.before.before.before.before.before.before.before in
-    sent_asked s.args.state.now s.args.choices.now s.args.counts.now s.pre.0 s.pre.1 f.send-first.result _ _
-    f.send-first.ensures
+    sent_asked c.args.state.now c.args.choices.now c.args.counts.now c.requires.0 c.requires.1 c.send_first-sure.result _ _
+    c.send_first-sure.ensures
 
-returns : tie.Need-returns
+returns : tie.Need-returns-then-sure-choices
 returns c =
-    let f = c.before.before.before.before.before.before.before.before.before.before.before.before.before in let s = c.before.before.before.before.before.before.before.before.before.before.before.before.before.before.before.before.before.before.before in
-    sent_both s.args.state.now s.args.choices.now s.args.counts.now s.pre.0 s.pre.1 f.send-first.result _ _
-    f.send-first.ensures _ _ c.before.before.before.before.send-rest.ensures
+    sent_both c.args.state.now c.args.choices.now c.args.counts.now c.requires.0 c.requires.1 c.send_first-sure.result _ _
+    c.send_first-sure.ensures _ _ c.send_rest.ensures
 
-returns-2 : tie.Need-returns-2
+returns-2 : tie.Need-returns-else-sure-choices
 returns-2 c =
-    let f = c.before.before.before.before.before in let s = c.before.before.before.before.before.before.before.before.before.before.before in
-    sent_all_lem s.args.state.now s.args.choices.now s.args.counts.now s.pre.0 s.pre.1 f.send-first.result _ _
-    f.send-first.ensures c.if1.false
+    sent_all_lem c.args.state.now c.args.choices.now c.args.counts.now c.requires.0 c.requires.1 c.send_first-sure.result _ _
+    c.send_first-sure.ensures c.if-sure-choices.false
 
-pub send-legal-spec : {M : Type 1} → statement M
-send-legal-spec =
+pub send_legal_spec : {M : Type 1} → statement M
+send_legal_spec =
     tie.close
     (tie.spec
     (λ c κs. search rules)

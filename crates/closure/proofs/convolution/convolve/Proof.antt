@@ -6,21 +6,20 @@ use Rattle.closure.proofs.Convolving.{Convolving, convolving_begins, convolving_
 use Rattle.closure.proofs.convolution.convolve.Statement.{statement}
 use Rattle.closure.proofs.convolution.convolve.Tie as tie
 
-abbrev invariant-loop : tie.invariant-loop
+abbrev invariant-loop : tie.invariant-loop-a
 invariant-loop own best₀ h a₀ best a = (1 ≤ a) × (a ≤ length best₀ + 4) × Convolving own best₀ a best
 
-abbrev decreases-loop : tie.decreases-loop
+abbrev decreases-loop : tie.decreases-loop-a
 decreases-loop own best₀ h a₀ best a = h - a
 
-lower-to-sums-requires : tie.Need-lower-to-sums-requires invariant-loop decreases-loop
+lower-to-sums-requires : tie.Need-lower_to_sums-requires invariant-loop decreases-loop
 lower-to-sums-requires c κs =
     let head = c.before.before.before.before in
-    let a = head.loop.a in
-    let start = head.before.before.before in
-    let pre = start.requires in
-    let own = start.args.own.now in
-    let best = head.loop.best in
-    let lowered = head.loop.invariant.2 in (
+    let a = head.loop-a.a in
+    let pre = head.requires in
+    let own = head.args.own.now in
+    let best = head.loop-a.best in
+    let lowered = head.loop-a.invariant.2 in (
       omega (
         arith,
         part_length (a + a - 2) best (omega (arith, lowered.whole)),
@@ -28,38 +27,36 @@ lower-to-sums-requires c κs =
         pre.0.long,
         lowered.whole,
       ),
-      convolving_normal own start.args.best.now pre.0 pre.1 pre.2 a head.loop.invariant.0 (omega arith) best lowered _
+      convolving_normal own head.args.best.now pre.0 pre.1 pre.2 a head.loop-a.invariant.0 (omega arith) best lowered _
           c.falling.ensures,
     )
 
-loop-again : tie.Need-loop-preserved invariant-loop decreases-loop
+loop-again : tie.Need-loop-a-preserved invariant-loop decreases-loop
 loop-again c =
     let head = c.before.before.before.before.before.before.before in
-    let start = head.before.before.before in
-    let pre = start.requires in (
+    let pre = head.requires in (
       omega arith,
       omega arith,
-      convolving_goes_on start.args.own.now start.args.best.now pre.0 pre.1 pre.2 head.loop.a
-          head.loop.invariant.0 (omega arith) _ head.loop.invariant.2 _ c.before.before.before.falling.ensures _
-          c.before.before.lower-to-sums.ensures,
+      convolving_goes_on head.args.own.now head.args.best.now pre.0 pre.1 pre.2 head.loop-a.a
+          head.loop-a.invariant.0 (omega arith) _ head.loop-a.invariant.2 _ c.falling.ensures _
+          c.lower_to_sums.ensures,
     )
 
 returns : tie.Need-returns invariant-loop decreases-loop
 returns c =
     let end = c.before in
-    let start = end.before.before.before in
-    convolving_ends start.args.own.now start.args.best.now start.requires.0 start.requires.1 start.requires.2 end.loop.a _
+    convolving_ends end.args.own.now end.args.best.now end.requires.0 end.requires.1 end.requires.2 end.loop-a.a _
     (omega arith)
-    end.loop.invariant.2
+    end.loop-a.invariant.2
 
-pub convolve-spec : {M : Type 1} → statement M
-convolve-spec =
+pub convolve_spec : {M : Type 1} → statement M
+convolve_spec =
     tie.close
     (tie.spec
     invariant-loop
     decreases-loop
-    (λ c. let args = c.before.before.args in (omega arith, omega arith, convolving_begins args.own.now args.best.now))
-    (λ c. omega (arith, c.before.before.before.requires.0.short))
+    (λ c. let args = c.args in (omega arith, omega arith, convolving_begins args.own.now args.best.now))
+    (λ c. omega (arith, c.requires.0.short))
     (λ c. search rules)
     (λ c. search rules)
     (λ c. search rules)

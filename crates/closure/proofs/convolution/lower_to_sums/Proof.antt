@@ -8,40 +8,40 @@ use Rattle.closure.proofs.Passes.{least-turn}
 use Rattle.closure.proofs.convolution.lower_to_sums.Statement.{statement}
 use Rattle.closure.proofs.convolution.lower_to_sums.Tie as tie
 
-abbrev invariant-loop : tie.invariant-loop
+abbrev invariant-loop : tie.invariant-loop-i
 invariant-loop best₀ row numbers i₀ best i =
     (i ≤ length best₀)
     × (length best ≡ length best₀)
     × Filled (λ d. smallest_of_five row numbers (d - 1) (figure 0 best₀ d)) best₀ best i
 
-abbrev decreases-loop : tie.decreases-loop
+abbrev decreases-loop : tie.decreases-loop-i
 decreases-loop best₀ row numbers i₀ best i = length best₀ - i
 
 -- The entry that a turn lowers is still as found.
-entry : (turn : tie.At-loop invariant-loop decreases-loop)
-    → get_or turn.loop.best turn.loop.i 0 ≡ get_or turn.before.before.before.args.best.now turn.loop.i 0
-entry turn = later turn.loop.invariant.2 turn.loop.i (omega arith)
+entry : (turn : tie.At-loop-i invariant-loop decreases-loop)
+    → get_or turn.loop-i.best turn.loop-i.i 0 ≡ get_or turn.args.best.now turn.loop-i.i 0
+entry turn = later turn.loop-i.invariant.2 turn.loop-i.i (omega arith)
 
-smallest-of-five-requires : tie.Need-smallest-of-five-requires invariant-loop decreases-loop
+smallest-of-five-requires : tie.Need-smallest_of_five-requires invariant-loop decreases-loop
 smallest-of-five-requires c κs =
     let turn = c.before.before in
-    let pre = turn.before.before.before.requires in
-    let (x, sums) = pre.1 turn.loop.i (omega arith) in
+    let pre = turn.requires in
+    let (x, sums) = pre.1 turn.loop-i.i (omega arith) in
     (omega arith, subst Normal (sym (entry turn)) x, sums)
 
-loop-again : tie.Need-loop-preserved invariant-loop decreases-loop
+loop-again : tie.Need-loop-i-preserved invariant-loop decreases-loop
 loop-again c =
     let turn = c.before.before.before in
-    let args = turn.before.before.before.args in (
+    let args = turn.args in (
       omega arith,
       search rules,
-      stored turn.loop.invariant.2 _ (omega arith)
-          (least-turn args.row.now args.numbers args.best.now turn.loop.best turn.loop.i _ (entry turn)
-          c.smallest-of-five.ensures),
+      stored turn.loop-i.invariant.2 _ (omega arith)
+          (least-turn args.row.now args.numbers args.best.now turn.loop-i.best turn.loop-i.i _ (entry turn)
+          c.smallest_of_five.ensures),
     )
 
-pub lower-to-sums-spec : {M : Type 1} → statement M
-lower-to-sums-spec =
+pub lower_to_sums_spec : {M : Type 1} → statement M
+lower_to_sums_spec =
     tie.close
     (tie.spec
     invariant-loop
@@ -56,4 +56,4 @@ lower-to-sums-spec =
     (λ c. search rules)
     loop-again
     (λ c. search rules)
-    (λ c. filled c.before.loop.invariant.2 _ (omega arith) refl))
+    (λ c. filled c.loop-i.invariant.2 _ (omega arith) refl))

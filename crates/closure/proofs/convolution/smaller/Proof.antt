@@ -8,22 +8,20 @@ use Rattle.closure.proofs.Floats.{smaller_bits, no_nan_bits, no_nan}
 use Rattle.closure.proofs.convolution.smaller.Statement.{statement}
 use Rattle.closure.proofs.convolution.smaller.Tie as tie
 
-float-to-bits-result : tie.Need-float-to-bits-result
+float-to-bits-result : tie.Need-float_to_bits-result
 float-to-bits-result c =
-    let start = c.before in
-    let a = start.args.a in
-    let b = start.args.b in
-    subst (λ (x : Float). T (not (is_nan x))) (sym c.smaller-float.ensures)
-    (no_nan a b start.requires.0 start.requires.1 (lt (of_bits binary32 a) (of_bits binary32 b)))
+    let a = c.args.a in
+    let b = c.args.b in
+    subst (λ (x : Float). T (not (is_nan x))) (sym c.smaller_float.ensures)
+    (no_nan a b c.requires.0 c.requires.1 (lt (of_bits binary32 a) (of_bits binary32 b)))
 
 returns : tie.Need-returns
 returns c =
-    let start = c.before in
-    ap (to_bits binary32) c.smaller-float.ensures
-    ∙ smaller_bits start.args.a start.args.b start.requires.0 start.requires.1
+    ap (to_bits binary32) c.smaller_float.ensures
+    ∙ smaller_bits c.args.a c.args.b c.requires.0 c.requires.1
 
-pub smaller-spec : {M : Type 1} → statement M
-smaller-spec =
+pub smaller_spec : {M : Type 1} → statement M
+smaller_spec =
     tie.close
     (tie.spec
     (λ c. no_nan_bits c.args.a c.requires.0)

@@ -4,9 +4,9 @@ use Rattle.laws.proofs.Base.{sym, ap, cond}
 use Rattle.closure.proofs.convolution.smaller_float.Statement.{statement}
 use Rattle.closure.proofs.convolution.smaller_float.Tie as tie
 
-pub smaller-float-spec : {M : Type 1} → statement M
-smaller-float-spec =
+pub smaller_float_spec : {M : Type 1} → statement M
+smaller_float_spec =
     tie.close
     (tie.spec
-    (λ c. let args = c.before.args in sym (ap (λ t. cond t args.x args.y) c.if1.true))
-    (λ c. let args = c.before.args in sym (ap (λ t. cond t args.x args.y) c.if1.false)))
+    (λ c. let args = c.args in sym (ap (λ t. cond t args.x args.y) c.if-x-y.true))
+    (λ c. let args = c.args in sym (ap (λ t. cond t args.x args.y) c.if-x-y.false)))

@@ -10,24 +10,24 @@ use Rattle.closure.proofs.leasts.stand_ins.Tie as tie
 zeros-long : {xs : List ℕ} → xs ≡ replicate max_horizon 0 → length xs ≡ max_horizon
 zeros-long e = ap length e ∙ length-replicate {A = ℕ} max_horizon 0
 
-abbrev invariant-loop : tie.invariant-loop
+abbrev invariant-loop : tie.invariant-loop-i
 invariant-loop upper₀ i₀ upper i =
     (i ≤ max_horizon) × (length upper ≡ max_horizon) × Filled (λ d. d * least_limit) upper₀ upper i
 
-abbrev decreases-loop : tie.decreases-loop
+abbrev decreases-loop : tie.decreases-loop-i
 decreases-loop upper₀ i₀ upper i = max_horizon - i
 
-loop-holds : tie.Need-loop-init invariant-loop decreases-loop
-loop-holds c = (omega arith, zeros-long c.zeros.ensures, unfilled _ _)
+loop-holds : tie.Need-loop-i-init invariant-loop decreases-loop
+loop-holds c = (omega arith, zeros-long c.zeros-upper.ensures, unfilled _ _)
 
-loop-again : tie.Need-loop-preserved invariant-loop decreases-loop
+loop-again : tie.Need-loop-i-preserved invariant-loop decreases-loop
 loop-again c =
-    let head = c.before.loop in
-    let long = zeros-long c.before.before.zeros.ensures in
+    let head = c.loop-i in
+    let long = zeros-long c.zeros-upper.ensures in
     (omega arith, search rules, stored head.invariant.2 _ (omega arith) refl)
 
-pub stand-ins-spec : {M : Type 1} → statement M
-stand-ins-spec =
+pub stand_ins_spec : {M : Type 1} → statement M
+stand_ins_spec =
     tie.close
     (tie.spec
     invariant-loop
@@ -42,4 +42,4 @@ stand-ins-spec =
     (λ c. search rules)
     (λ c. search rules)
     loop-again
-    (λ c. filled c.before.loop.invariant.2 _ (omega arith) (zeros-long c.before.before.zeros.ensures)))
+    (λ c. filled c.loop-i.invariant.2 _ (omega arith) (zeros-long c.zeros-upper.ensures)))

@@ -6,10 +6,10 @@ use Rattle.closure.proofs.Running.{refusal_stays}
 use Rattle.closure.proofs.leasts.without_ceilings.Statement.{statement}
 use Rattle.closure.proofs.leasts.without_ceilings.Tie as tie
 
-pub without-ceilings-spec : {M : Type 1} → statement M
-without-ceilings-spec =
+pub without_ceilings_spec : {M : Type 1} → statement M
+without_ceilings_spec =
     tie.close
     (tie.spec
     (λ c. search rules)
-    (λ c. sym (ap unlimited_as c.before.closing.given.1))
-    (λ c. refusal_stays c.before.args.closing c.match.keys2))
+    (λ c. sym (ap unlimited_as c.in-Closed.is))
+    (λ c. refusal_stays c.args.closing c.in_default.in_default-own.keys2))

@@ -7,28 +7,27 @@ use Rattle.closure.proofs.Rows.{Rowed, no_figures, figure_put, rowed_whole, entr
 use Rattle.closure.proofs.round.turned_row.Statement.{statement}
 use Rattle.closure.proofs.round.turned_row.Tie as tie
 
-abbrev invariant-loop : tie.invariant-loop
+abbrev invariant-loop : tie.invariant-loop-i
 invariant-loop lower row₀ i₀ row i = (i ≤ length lower) × Rowed (λ d. lift - figure 0 lower d) i row
 
-abbrev decreases-loop : tie.decreases-loop
+abbrev decreases-loop : tie.decreases-loop-i
 decreases-loop lower row₀ i₀ row i = length lower - i
 
-sub_row : tie.Need-overflow-sub-row invariant-loop decreases-loop
+sub_row : tie.Need-overflow_sub-row invariant-loop decreases-loop
 sub_row c =
-    let start = c.before.before.before in
-    omega (arith, entry_bounded start.args.lower.now start.requires.1 c.before.before.loop.i)
+    omega (arith, entry_bounded c.args.lower.now c.requires.1 c.loop-i.i)
 
-loop-again : tie.Need-loop-preserved invariant-loop decreases-loop
+loop-again : tie.Need-loop-i-preserved invariant-loop decreases-loop
 loop-again c =
-    let head = c.before.before.loop in
-    let short = c.before.before.before.requires.0 in
+    let head = c.loop-i in
+    let short = c.requires.0 in
     (omega arith, figure_put head.invariant.1 _ (omega arith) (ap (λ x. lift - x) (entry_figure _ head.i)))
 
 returns : tie.Need-returns invariant-loop decreases-loop
-returns c = rowed_whole c.before.loop.invariant.1 _ (omega arith) c.before.before.requires.0
+returns c = rowed_whole c.loop-i.invariant.1 _ (omega arith) c.requires.0
 
-pub turned-row-spec : {M : Type 1} → statement M
-turned-row-spec =
+pub turned_row_spec : {M : Type 1} → statement M
+turned_row_spec =
     tie.close
     (tie.spec
     invariant-loop

@@ -8,23 +8,23 @@ use Rattle.closure.proofs.Rows.{entry_figure}
 use Rattle.closure.proofs.round.unlift.Statement.{statement}
 use Rattle.closure.proofs.round.unlift.Tie as tie
 
-abbrev invariant-loop : tie.invariant-loop
+abbrev invariant-loop : tie.invariant-loop-i
 invariant-loop list₀ i₀ list i =
     (i ≤ length list₀) × (length list ≡ length list₀) × Filled (λ d. figure 0 list₀ d - (lift + lift)) list₀ list i
 
-abbrev decreases-loop : tie.decreases-loop
+abbrev decreases-loop : tie.decreases-loop-i
 decreases-loop list₀ i₀ list i = length list₀ - i
 
-loop-again : tie.Need-loop-preserved invariant-loop decreases-loop
+loop-again : tie.Need-loop-i-preserved invariant-loop decreases-loop
 loop-again c =
-    let head = c.before.before.before.loop in
-    let found = c.before.before.before.before.before.args.list.now in
+    let head = c.loop-i in
+    let found = c.args.list.now in
     let entry : get_or head.list head.i 0 ≡ figure 0 found (head.i + 1) =
     later head.invariant.2 head.i (omega arith) ∙ entry_figure found head.i in
     (omega arith, search rules, stored head.invariant.2 _ (omega arith) (c.unlifted.ensures ∙ ap (λ x. x - (lift + lift)) entry))
 
-pub unlift-spec : {M : Type 1} → statement M
-unlift-spec =
+pub unlift_spec : {M : Type 1} → statement M
+unlift_spec =
     tie.close
     (tie.spec
     invariant-loop
@@ -39,4 +39,4 @@ unlift-spec =
     (λ c. search rules)
     loop-again
     (λ c. search rules)
-    (λ c. filled c.before.loop.invariant.2 _ (omega arith) refl))
+    (λ c. filled c.loop-i.invariant.2 _ (omega arith) refl))

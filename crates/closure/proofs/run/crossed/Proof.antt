@@ -5,25 +5,24 @@ use Rattle.closure.proofs.Running.{crossed_at, uncrossed}
 use Rattle.closure.proofs.run.crossed.Statement.{statement}
 use Rattle.closure.proofs.run.crossed.Tie as tie
 
-abbrev invariant-loop : tie.invariant-loop
+abbrev invariant-loop : tie.invariant-loop-i
 invariant-loop upper lower i₀ i = (i ≤ length upper) × ((k : ℕ) → k < i → get_or lower k 0 ≤ get_or upper k 0)
 
-abbrev decreases-loop : tie.decreases-loop
+abbrev decreases-loop : tie.decreases-loop-i
 decreases-loop upper lower i₀ i = length upper - i
 
-returns : tie.Need-returns invariant-loop decreases-loop
+returns : tie.Need-returns-then-upper-i invariant-loop decreases-loop
 returns c =
-    let head = c.before.before.before.before in
-    crossed_at head.before.args.upper.now head.before.args.lower.now head.loop.i (omega arith) c.if1.true
+    crossed_at c.args.upper.now c.args.lower.now c.loop-i.i (omega arith) c.if-upper-i.true
 
-loop-again : tie.Need-loop-preserved invariant-loop decreases-loop
-loop-again c = (search rules, below_more _ _ c.before.before.before.before.loop.invariant.1 c.if1.false)
+loop-again : tie.Need-loop-i-preserved invariant-loop decreases-loop
+loop-again c = (search rules, below_more _ _ c.loop-i.invariant.1 c.if-upper-i.false)
 
-returns-2 : tie.Need-returns-2 invariant-loop decreases-loop
-returns-2 c = let head = c.before.loop in uncrossed _ _ head.i head.invariant.1 c.loop-test.false
+returns-2 : tie.Need-returns invariant-loop decreases-loop
+returns-2 c = let head = c.loop-i in uncrossed _ _ head.i head.invariant.1 c.loop-i-test.false
 
-pub crossed-spec : {M : Type 1} → statement M
-crossed-spec =
+pub crossed_spec : {M : Type 1} → statement M
+crossed_spec =
     tie.close
     (tie.spec
     invariant-loop

@@ -6,16 +6,15 @@ use Rattle.closure.proofs.Running.{delivered, undelivered, same_pairs}
 use Rattle.closure.proofs.run.deliver.Statement.{statement}
 use Rattle.closure.proofs.run.deliver.Tie as tie
 
-returns : tie.Need-returns
+returns : tie.Need-returns-in-Settled
 returns c =
-    let copied = c.before.before.before.before.before.before in
-    let stop = copied.before.before.before.stop in
-    let uppers = whole copied.copy.ensures (search rules) in
-    let lowers = whole c.before.before.copy2.ensures (search rules) in
+    let stop = c.stop-1 in
+    let uppers = whole c.copy.ensures (search rules) in
+    let lowers = whole c.copy-in-Settled.ensures (search rules) in
     delivered _ _ _ _ _ stop.given.1 (same_pairs _ _ _ _ uppers lowers)
 
-pub deliver-spec : {M : Type 1} → statement M
-deliver-spec =
+pub deliver_spec : {M : Type 1} → statement M
+deliver_spec =
     tie.close
     (tie.spec
     (λ c. search rules)
@@ -25,4 +24,4 @@ deliver-spec =
     (λ c. search rules)
     (λ c. search rules)
     returns
-    (λ c. undelivered _ _ _ _ c.enum_told.given.1 refl))
+    (λ c. undelivered _ _ _ _ c.in-Crossed.is refl))

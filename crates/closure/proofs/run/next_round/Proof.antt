@@ -8,12 +8,11 @@ use Rattle.closure.proofs.run.next_round.Tie as tie
 
 returns : tie.Need-returns
 returns c =
-    let lowers = c.before.before.copy2 in
-    let uppers = c.before.before.before.before.before.before.before.copy in
+    let lowers = c.copy-lowers_same in
+    let uppers = c.copy-uppers_same in
     let first = c.before.before.before.before.before.before.before.before.before.before.before.before.before.before in
-    let start = first.before.before.before.before.before.before.before.before.before in
-    let us = start.args.upper.now in
-    let ls = start.args.lower.now in
+    let us = first.args.upper.now in
+    let ls = first.args.lower.now in
     record {
       figures =
           same_pairs _ _ _ _ (whole uppers.ensures (search rules)) (whole lowers.ensures (search rules))
@@ -21,8 +20,8 @@ returns c =
       told = pairs-told us ls _ _ uppers.result lowers.result uppers.ensures.told lowers.ensures.told;
     }
 
-pub next-round-spec : {M : Type 1} → statement M
-next-round-spec =
+pub next_round_spec : {M : Type 1} → statement M
+next_round_spec =
     tie.close
     (tie.spec
     (λ c κs. search rules)

@@ -8,69 +8,66 @@ use Rattle.closure.proofs.Progress.{Held, begins, at_most_nine, crosses, half_wi
 use Rattle.closure.proofs.run.until_stop.Statement.{statement}
 use Rattle.closure.proofs.run.until_stop.Tie as tie
 
-abbrev invariant-loop : tie.invariant-loop
+abbrev invariant-loop : tie.invariant-loop-rounds
 invariant-loop upper₀ lower₀ new-upper₀ new-lower₀ rounds₀ upper lower new-upper new-lower rounds =
     Held (pair_of upper₀ lower₀) rounds (pair_of upper lower)
     × (length upper ≡ length upper₀)
     × (length new-upper ≡ length new-upper₀)
     × (length new-lower ≡ length new-lower₀)
 
-abbrev decreases-loop : tie.decreases-loop
+abbrev decreases-loop : tie.decreases-loop-rounds
 decreases-loop upper₀ lower₀ new-upper₀ new-lower₀ rounds₀ upper lower new-upper new-lower rounds = 10 - rounds
 
-few : (turn : tie.At-loop invariant-loop decreases-loop) → turn.loop.rounds ≤ 9
-few turn = at_most_nine _ _ _ turn.loop.invariant.0 turn.before.before.before.before.before.requires.0.0
+few : (turn : tie.At-loop-rounds invariant-loop decreases-loop) → turn.loop-rounds.rounds ≤ 9
+few turn = at_most_nine _ _ _ turn.loop-rounds.invariant.0 turn.requires.0.0
 
-loop-holds : tie.Need-loop-init invariant-loop decreases-loop
+loop-holds : tie.Need-loop-rounds-init invariant-loop decreases-loop
 loop-holds c =
-    let start = c.before.before.before.before in
-    (begins (pair_of start.args.upper.now start.args.lower.now) start.requires.1.0, refl, refl, refl)
+    (begins (pair_of c.args.upper.now c.args.lower.now) c.requires.1.0, refl, refl, refl)
 
-returns : tie.Need-returns invariant-loop decreases-loop
+returns : tie.Need-returns-then-crossed invariant-loop decreases-loop
 returns c =
-    let head = c.before.before.before.before.loop in
-    (head.rounds, crosses _ _ _ head.invariant.0 (either_true _ _ _ c.if1.true c.before.crossed.ensures))
+    let head = c.loop-rounds in
+    (head.rounds, crosses _ _ _ head.invariant.0 (either_true _ _ _ c.if-crossed.true c.crossed.ensures))
 
-next-round-requires : tie.Need-next-round-requires invariant-loop decreases-loop
+next-round-requires : tie.Need-next_round-requires invariant-loop decreases-loop
 next-round-requires c κs =
     let went_on = c.before.before.before.before in
     let head = went_on.before.before.before.before in
-    let start = head.before.before.before.before.before in
-    let uncrossed = either_false _ _ _ went_on.if1.false went_on.before.crossed.ensures in
-    (search rules, omega (arith, start.requires.0.0, head.loop.invariant.1), half_width _ _ _ head.loop.invariant.0 start.requires.0.1 uncrossed)
+    let uncrossed = either_false _ _ _ went_on.if-crossed.false went_on.crossed.ensures in
+    (search rules, omega (arith, head.requires.0.0, head.loop-rounds.invariant.1), half_width _ _ _ head.loop-rounds.invariant.0 head.requires.0.1 uncrossed)
 
 -- The turn's beginning, seen from its round, and that no least was above its ceiling there.
-abbrev head : tie.After-next-round invariant-loop decreases-loop → tie.At-loop invariant-loop decreases-loop
+abbrev head : tie.After-next_round invariant-loop decreases-loop → tie.At-loop-rounds invariant-loop decreases-loop
 head a = a.before.before.before.before.before.before.before.before.before
 
-uncrossed : (a : tie.After-next-round invariant-loop decreases-loop) → ¬ Crossed cut_off (pair_of (head a).loop.upper (head a).loop.lower)
+uncrossed : (a : tie.After-next_round invariant-loop decreases-loop) → ¬ Crossed cut_off (pair_of (head a).loop-rounds.upper (head a).loop-rounds.lower)
 uncrossed a =
-    let went_on = a.before.before.before.before.before in
-    either_false _ _ _ went_on.if1.false went_on.before.crossed.ensures
+    either_false _ _ _ a.if-crossed.false a.crossed.ensures
 
-returns-2 : tie.Need-returns-2 invariant-loop decreases-loop
+returns-2 : tie.Need-returns-then-next_round invariant-loop decreases-loop
 returns-2 c =
     let a = c.before.before.before.before.before.before.before.before.before in
-    arrives _ _ _ (head a).loop.invariant.0 (uncrossed a) _ _ a.next-round.ensures c.if2.true
+    arrives _ _ _ (head a).loop-rounds.invariant.0 (uncrossed a) _ _ a.next_round.ensures c.if-next_round.true
 
-add_rounds : tie.Need-overflow-add-rounds invariant-loop decreases-loop
+add_rounds : tie.Need-overflow_add-rounds invariant-loop decreases-loop
 add_rounds c = omega (arith, few (head c.before.before.before.before.before.before.before.before.before))
 
-loop-less : tie.Need-loop-smaller invariant-loop decreases-loop
+loop-less : tie.Need-loop-rounds-smaller invariant-loop decreases-loop
 loop-less c =
     omega (arith, few (head c.before.before.before.before.before.before.before.before.before))
 
-loop-again : tie.Need-loop-preserved invariant-loop decreases-loop
+loop-again : tie.Need-loop-rounds-preserved invariant-loop decreases-loop
 loop-again c =
     let a = c.before.before.before.before.before.before.before.before.before in (
-      goes_on _ _ _ (head a).loop.invariant.0 (uncrossed a) _ _ a.next-round.ensures c.if2.false,
+      goes_on _ _ _ (head a).loop-rounds.invariant.0 (uncrossed a) _ _ a.next_round.ensures c.if-next_round.false,
       search rules,
       search rules,
       search rules,
     )
 
-pub until-stop-spec : {M : Type 1} → statement M
-until-stop-spec =
+pub until_stop_spec : {M : Type 1} → statement M
+until_stop_spec =
     tie.close
     (tie.spec
     invariant-loop

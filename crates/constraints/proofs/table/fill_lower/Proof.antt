@@ -6,20 +6,20 @@ use Rattle.constraints.specs.Steps.{least_in}
 use Rattle.constraints.proofs.table.fill_lower.Statement.{statement}
 use Rattle.constraints.proofs.table.fill_lower.Tie as tie
 
-abbrev invariant-loop : tie.invariant-loop
+abbrev invariant-loop : tie.invariant-loop-i
 invariant-loop leasts horizon lower₀ i₀ lower i = (i ≤ horizon) × Filled (least_in leasts) lower₀ lower i
 
-abbrev decreases-loop : tie.decreases-loop
+abbrev decreases-loop : tie.decreases-loop-i
 decreases-loop leasts horizon lower₀ i₀ lower i = horizon - i
 
-loop-again : tie.Need-loop-preserved invariant-loop decreases-loop
+loop-again : tie.Need-loop-i-preserved invariant-loop decreases-loop
 loop-again c =
-    let head = c.before.before.loop in
+    let head = c.loop-i in
     let same : head.i + 1 - 1 ≡ head.i = omega arith in
     (omega arith, stored head.invariant.1 _ (omega arith) (rw same))
 
-pub fill-lower-spec : {M : Type 1} → statement M
-fill-lower-spec =
+pub fill_lower_spec : {M : Type 1} → statement M
+fill_lower_spec =
     tie.close
     (tie.spec
     invariant-loop
@@ -33,4 +33,4 @@ fill-lower-spec =
     (λ c. search rules)
     loop-again
     (λ c. search rules)
-    (λ c. filled_front c.before.loop.invariant.1 c.before.before.args.horizon (omega arith)))
+    (λ c. filled_front c.loop-i.invariant.1 c.args.horizon (omega arith)))

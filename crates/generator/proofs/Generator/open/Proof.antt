@@ -7,11 +7,11 @@ use Rattle.generator.proofs.Generator.open.Tie as tie
 
 returns : tie.Need-returns
 returns c =
-    let asked = c.before.before.before.ask-opening in
+    let asked = c.ask_opening-opening in
     let start = c.before.before.«open» in
     record {
       answer = asked.ensures;
-      history = rw c.begin.ensures (begun_is _ start.result.history asked.result asked.ensures start.ensures.history);
+      history = rw c.begin-state.ensures (begun_is _ start.result.history asked.result asked.ensures start.ensures.history);
     }
 
 pub open_spec : {M : Type 1} → statement M

@@ -12,22 +12,22 @@ use Rattle.generator.proofs.Generator.tick.Tie as tie
 arrays : (s : tie.Start) → Arrays s.args.self.history
 arrays s = record { uppers = search rules; lowers = search rules; held = search rules }
 
-choose-requires : tie.Need-choose-requires
-choose-requires c κs = chooses_where _ c.find-range.result c.find-range.ensures
+choose-requires : tie.Need-choose-sending-requires
+choose-requires c κs = chooses_where _ c.find_range-admissible.result c.find_range-admissible.ensures
 
 -- The start, seen from where the count is chosen from the range.
-abbrev start : tie.After-choose → tie.Start
+abbrev start : tie.After-choose-sending → tie.Start
 start a = a.before.before.before.before.before.before.before.before.before
 
-sent : (a : tie.After-choose)
-    → sending_reply a.choose.result ≡ sending (view_of (start a).args.self.history) (start a).args.choice
-sent a = a.choose.ensures ∙ ap (λ b. sent_from b (start a).args.choice) a.before.find-range.ensures
+sent : (a : tie.After-choose-sending)
+    → sending_reply a.choose-sending.result ≡ sending (view_of (start a).args.self.history) (start a).args.choice
+sent a = a.choose-sending.ensures ∙ ap (λ b. sent_from b (start a).args.choice) a.find_range-admissible.ensures
 
-hold-requires : tie.Need-hold-requires
+hold-requires : tie.Need-hold-held-requires
 hold-requires c κs =
     let a = c.before in
     let s = start a in
-    holds_where s.args.self.history s.args.choice a.choose.result (arrays s) (sent a)
+    holds_where s.args.self.history s.args.choice a.choose-sending.result (arrays s) (sent a)
 
 returns : tie.Need-returns
 returns c =
@@ -35,11 +35,11 @@ returns c =
     let s = start a in
     record {
       answer = sent a;
-      next = next_is s.args.self s.args.choice (arrays s) _ _ a.choose.result (sent a) c.before.hold.ensures;
+      next = next_is s.args.self s.args.choice (arrays s) _ _ a.choose-sending.result (sent a) c.hold-held.ensures;
     }
 
-pub tick-spec : {M : Type 1} → statement M
-tick-spec =
+pub tick_spec : {M : Type 1} → statement M
+tick_spec =
     tie.close
     (tie.spec
     (λ c κs. search rules)

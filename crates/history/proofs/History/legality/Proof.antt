@@ -4,7 +4,7 @@ use borrow.Author.Rules.{rules}
 use Rattle.history.proofs.History.legality.Statement.{statement}
 use Rattle.history.proofs.History.legality.Tie as tie
 
-pub legality-spec : {M : Type 1} → statement M
-legality-spec =
+pub legality_spec : {M : Type 1} → statement M
+legality_spec =
     tie.close
-    (tie.spec (λ c κs. search rules) (λ c. c.ask-legality.ensures.answer c.before.before.before.before.before.args.self.ticks))
+    (tie.spec (λ c κs. search rules) (λ c. c.ask_legality.ensures.answer c.args.self.ticks))

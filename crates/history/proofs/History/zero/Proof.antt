@@ -6,7 +6,7 @@ use Rattle.history.proofs.History.zero.Statement.{statement}
 use Rattle.history.proofs.History.zero.Tie as tie
 
 returns : tie.Need-returns
-returns c = zero-history-is _ _ _ c.before.before.zeros.ensures c.before.zeros2.ensures c.zeros3.ensures
+returns c = zero-history-is _ _ _ c.zeros-upper.ensures c.zeros-lower.ensures c.zeros-ticks.ensures
 
-pub zero-spec : {M : Type 1} → statement M
-zero-spec = tie.close (tie.spec (λ c κs. search rules) (λ c κs. search rules) (λ c κs. search rules) returns)
+pub zero_spec : {M : Type 1} → statement M
+zero_spec = tie.close (tie.spec (λ c κs. search rules) (λ c κs. search rules) (λ c κs. search rules) returns)

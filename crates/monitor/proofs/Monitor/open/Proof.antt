@@ -8,20 +8,20 @@ use Rattle.monitor.proofs.Monitor.open.Statement.{statement}
 use Rattle.monitor.proofs.Monitor.open.Tie as tie
 
 -- The lists that are lent for the closure are full of zeros.
-ask-requires : tie.Need-ask-requires
+ask-requires : tie.Need-ask-opening-requires
 ask-requires c κs =
-    let zeros = c.before.before in λ i. pair_of (zeros.before.zeros.ensures i) (zeros.zeros2.ensures i)
+    λ i. pair_of (c.zeros-closed_upper.ensures i) (c.zeros-closed_lower.ensures i)
 
 returns : tie.Need-returns
 returns c =
     let start = c.before.before.«open» in
-    let asked = c.before.before.before.before.before.ask in
-    let args = c.before.before.before.before.before.before.before.before.before.before.before.before.args in
+    let asked = c.ask-opening in
+    let args = c.args in
     let p : AnyPair = with_mark args.upper.now args.lower.now args.unlimited in
     record {
       answer = asked.ensures.answer;
       state =
-          rw c.begin.ensures
+          rw c.begin-state.ensures
           (begun_is p start.result.history _ _ (search rules) (search rules) asked.result asked.ensures
           start.ensures.history);
     }

@@ -5,22 +5,20 @@ use Rattle.monitor.proofs.Opening.{asked_closing, asked_without}
 use Rattle.monitor.proofs.start.ask.Statement.{statement}
 use Rattle.monitor.proofs.start.ask.Tie as tie
 
-returns : tie.Need-returns
+returns : tie.Need-returns-then-unlimited
 returns c =
-    let found = c.before.ask in
-    let s = c.before.before.before.before.before.before.before in
-    asked_without s.args.upper.now s.args.lower.now s.args.unlimited _ _ found.result c.before.before.if1.true
-    c.opening-without.ensures found.ensures
+    let found = c.ask in
+    asked_without c.args.upper.now c.args.lower.now c.args.unlimited _ _ found.result c.if-unlimited.true
+    c.opening_without.ensures found.ensures
 
-returns-2 : tie.Need-returns-2
+returns-2 : tie.Need-returns
 returns-2 c =
     let close = c.before.before.before.before.before in
-    let s = close.before.before.before.before.before.before.before.before in
-    asked_closing s.args.upper.now s.args.lower.now s.args.unlimited _ _ close.close.result _
-    close.before.before.before.if1.false s.requires c.opening-for.ensures close.close.ensures
+    asked_closing close.args.upper.now close.args.lower.now close.args.unlimited _ _ close.close.result _
+    close.if-unlimited.false close.requires c.opening_for.ensures close.close.ensures
 
-pub ask-spec : {M : Type 1} → statement M
-ask-spec =
+pub ask_spec : {M : Type 1} → statement M
+ask_spec =
     tie.close
     (tie.spec
     (λ c κs. search rules)

@@ -5,11 +5,11 @@ use Rattle.monitor.proofs.Opening.{begun_opened, begun_zero}
 use Rattle.monitor.proofs.start.begin.Statement.{statement}
 use Rattle.monitor.proofs.start.begin.Tie as tie
 
-pub begin-spec : {M : Type 1} → statement M
-begin-spec =
+pub begin_spec : {M : Type 1} → statement M
+begin_spec =
     tie.close
     (tie.spec
     (λ c. search rules)
     (λ c κs. search rules)
-    (λ c. begun_opened c.before.before.args.opening _ _ _ c.enum_told.given.1)
-    (λ c. c.zero.ensures ∙ begun_zero c.before.before.args.opening _ _ _ c.before.match.keys2))
+    (λ c. begun_opened c.args.opening _ _ _ c.in-Opened.is)
+    (λ c. c.zero.ensures ∙ begun_zero c.args.opening _ _ _ c.in_default.in_default-own.keys2))

@@ -7,8 +7,8 @@ use Rattle.monitor.specs.Steps.{monitor_opening_for}
 use Rattle.monitor.proofs.start.opening_for.Statement.{statement}
 use Rattle.monitor.proofs.start.opening_for.Tie as tie
 
-pub opening-for-spec : {M : Type 1} → statement M
-opening-for-spec =
+pub opening_for_spec : {M : Type 1} → statement M
+opening_for_spec =
     tie.close
     (tie.spec
     (λ c. search rules)
@@ -19,4 +19,4 @@ opening-for-spec =
     (λ c. search rules)
     (λ c. search rules)
     (λ c. search rules)
-    (λ c. others (λ k. NoClosure ≡ monitor_opening_for k) refl refl c.before.args.closing c.match.keys5))
+    (λ c. others (λ k. NoClosure ≡ monitor_opening_for k) refl refl c.args.closing c.in_default.in_default-own.keys5))

@@ -6,7 +6,7 @@ use Rattle.monitor.proofs.start.zero.Statement.{statement}
 use Rattle.monitor.proofs.start.zero.Tie as tie
 
 returns : tie.Need-returns
-returns c = zero_is _ _ _ c.before.before.zero.ensures c.before.zeros.ensures c.zeros2.ensures
+returns c = zero_is _ _ _ c.zero-history.ensures c.zeros-closed_upper.ensures c.zeros-closed_lower.ensures
 
-pub zero-spec : {M : Type 1} → statement M
-zero-spec = tie.close (tie.spec (λ c κs. search rules) (λ c κs. search rules) (λ c κs. search rules) returns)
+pub zero_spec : {M : Type 1} → statement M
+zero_spec = tie.close (tie.spec (λ c κs. search rules) (λ c κs. search rules) (λ c κs. search rules) returns)

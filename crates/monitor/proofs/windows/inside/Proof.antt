@@ -12,5 +12,5 @@ returns c =
     both_told (a.least ≤ a.sum) (a.sum ≤ a.ceiling) (leb a.least a.sum) (leb a.sum a.ceiling)
     (leb_told a.least a.sum) (leb_told a.sum a.ceiling)
 
-pub inside-spec : {M : Type 1} → statement M
-inside-spec = tie.close (tie.spec returns)
+pub inside_spec : {M : Type 1} → statement M
+inside_spec = tie.close (tie.spec returns)

@@ -13,75 +13,75 @@ use Rattle.monitor.proofs.Judging.{SummedTo, summed_none, summed_more, one_more,
 use Rattle.monitor.proofs.windows.judge.Statement.{statement}
 use Rattle.monitor.proofs.windows.judge.Tie as tie
 
-abbrev invariant-loop : tie.invariant-loop
+abbrev invariant-loop : tie.invariant-loop-sum
 invariant-loop upper lower unlimited ticks count held sum₀ d₀ sum d =
     (sum ≤ (d + 1) * count_limit) × SummedTo upper lower unlimited ticks count sum d
     × KeptTo (curves_of (with_mark upper lower unlimited)) (then ticks count) d
 
-abbrev decreases-loop : tie.decreases-loop
+abbrev decreases-loop : tie.decreases-loop-sum
 decreases-loop upper lower unlimited ticks count held sum₀ d₀ sum d = length ticks - d
 
 -- The function's start, seen from a turn's beginning; and that, seen from where a tick is added.
-abbrev start : tie.At-loop invariant-loop decreases-loop → tie.Start invariant-loop decreases-loop
+abbrev start : tie.At-loop-sum invariant-loop decreases-loop → tie.Start invariant-loop decreases-loop
 start t = t.before.before.before.before
 
-abbrev head : tie.After-shared-slice-known7 invariant-loop decreases-loop → tie.At-loop invariant-loop decreases-loop
+abbrev head : tie.After-shared_slice_known-in-loop-sum-3-1 invariant-loop decreases-loop → tie.At-loop-sum invariant-loop decreases-loop
 head c = c.before.before.before.before.before.before
 
 -- The bound on the tick that is added.
-added : (c : tie.After-shared-slice-known7 invariant-loop decreases-loop)
-    → get_or (start (head c)).args.ticks.now (length (start (head c)).args.ticks.now - 1 - (head c).loop.d) 0 ≤ count_limit
-added c = omega (arith, c.shared-slice-known7.given (length (start (head c)).args.ticks.now - 1 - (head c).loop.d))
+added : (c : tie.After-shared_slice_known-in-loop-sum-3-1 invariant-loop decreases-loop)
+    → get_or (start (head c)).args.ticks.now (length (start (head c)).args.ticks.now - 1 - (head c).loop-sum.d) 0 ≤ count_limit
+added c = omega (arith, c.shared_slice_known-in-loop-sum-3-1.given (length (start (head c)).args.ticks.now - 1 - (head c).loop-sum.d))
 
 -- What the test of the margin tells.
-inside : (e : tie.Else1 invariant-loop decreases-loop) → let turn = e.before.before.before.before in
+inside : (e : tie.Else-margin_between-lt0 invariant-loop decreases-loop) → let turn = e.before.before.before.before in
     let args = (start turn).args in
     pos 0
-    ≤ℤ margin_with args.unlimited (get_or args.upper.now turn.loop.d 0) (get_or args.lower.now turn.loop.d 0)
-    turn.loop.sum
+    ≤ℤ margin_with args.unlimited (get_or args.upper.now turn.loop-sum.d 0) (get_or args.lower.now turn.loop-sum.d 0)
+    turn.loop-sum.sum
 inside e =
-    let j = e.before.margin-between in
-    not_less_told j.result _ (record { sfits = j.type-inv }) j.ensures (pos 0) e.if1.false
+    let j = e.margin_between in
+    not_less_told j.result _ (record { sfits = j.type-inv }) j.ensures (pos 0) e.if-margin_between-lt0.false
 
-loop-again : tie.Need-loop-preserved invariant-loop decreases-loop
+loop-again : tie.Need-loop-sum-preserved invariant-loop decreases-loop
 loop-again c =
     let turn = head c in (
       omega (arith, added c),
-      summed_more _ _ _ _ _ _ _ turn.loop.inv.1 (omega arith),
-      one_more _ _ _ _ _ (start turn).pre _ _ turn.loop.inv.1 turn.loop.inv.0 turn.loop.inv.2 (inside c.before.before),
+      summed_more _ _ _ _ _ _ _ turn.loop-sum.invariant.1 (omega arith),
+      one_more _ _ _ _ _ (start turn).requires _ _ turn.loop-sum.invariant.1 turn.loop-sum.invariant.0 turn.loop-sum.invariant.2 (inside c.before.before),
     )
 
 -- Where the window is outside, the turn's beginning, and what the test of the margin tells.
-abbrev failing : tie.After-shared-slice-known6 invariant-loop decreases-loop → tie.At-loop invariant-loop decreases-loop
+abbrev failing : tie.After-shared_slice_known-then-margin_between-lt0-1 invariant-loop decreases-loop → tie.At-loop-sum invariant-loop decreases-loop
 failing c = c.before.before.before.before.before
 
-outside : (c : tie.After-shared-slice-known6 invariant-loop decreases-loop) → let turn = failing c in
+outside : (c : tie.After-shared_slice_known-then-margin_between-lt0-1 invariant-loop decreases-loop) → let turn = failing c in
     let args = (start turn).args in
-    margin_with args.unlimited (get_or args.upper.now turn.loop.d 0) (get_or args.lower.now turn.loop.d 0) turn.loop.sum
+    margin_with args.unlimited (get_or args.upper.now turn.loop-sum.d 0) (get_or args.lower.now turn.loop-sum.d 0) turn.loop-sum.sum
     <ℤ pos 0
 outside c =
-    let j = c.before.before.margin-between in
-    less_told j.result _ (record { sfits = j.type-inv }) j.ensures (pos 0) c.before.if1.true
+    let j = c.margin_between in
+    less_told j.result _ (record { sfits = j.type-inv }) j.ensures (pos 0) c.if-margin_between-lt0.true
 
-returns : tie.Need-returns invariant-loop decreases-loop
+returns : tie.Need-returns-then-unlimited-upper invariant-loop decreases-loop
 returns c =
     let turn = failing c.before in
-    found_many _ _ _ _ _ (start turn).pre _ _ turn.loop.inv.1 turn.loop.inv.0 turn.loop.inv.2 c.if2.true
+    found_many _ _ _ _ _ (start turn).requires _ _ turn.loop-sum.invariant.1 turn.loop-sum.invariant.0 turn.loop-sum.invariant.2 c.if-unlimited-upper.true
 
-returns-2 : tie.Need-returns-2 invariant-loop decreases-loop
+returns-2 : tie.Need-returns-else-unlimited-upper invariant-loop decreases-loop
 returns-2 c =
     let turn = failing c.before in
-    found_few _ _ _ _ _ (start turn).pre _ _ turn.loop.inv.1 turn.loop.inv.0 turn.loop.inv.2 (outside c.before)
-    c.if2.false
+    found_few _ _ _ _ _ (start turn).requires _ _ turn.loop-sum.invariant.1 turn.loop-sum.invariant.0 turn.loop-sum.invariant.2 (outside c.before)
+    c.if-unlimited-upper.false
 
-returns-3 : tie.Need-returns-3 invariant-loop decreases-loop
+returns-3 : tie.Need-returns-then-held-d invariant-loop decreases-loop
 returns-3 c =
     let e = c.before in
     let turn = e.before.before.before.before in
-    found_none _ _ _ _ _ (start turn).requires _ _ turn.loop.invariant.1 turn.loop.invariant.0 turn.loop.invariant.2 (inside e) c.if3.true
+    found_none _ _ _ _ _ (start turn).requires _ _ turn.loop-sum.invariant.1 turn.loop-sum.invariant.0 turn.loop-sum.invariant.2 (inside e) c.if-held-d.true
 
-pub judge-spec : {M : Type 1} → statement M
-judge-spec =
+pub judge_spec : {M : Type 1} → statement M
+judge_spec =
     tie.close
     (tie.spec
     invariant-loop
@@ -91,10 +91,10 @@ judge-spec =
     (λ c. search rules)
     (λ c. search rules)
     (λ c. search rules)
-    (λ c κs. omega (arith, (start c.before.before).pre.within, (start c.before.before).pre.fewer))
+    (λ c κs. omega (arith, (start c.before.before).requires.within, (start c.before.before).requires.fewer))
     (λ c. search rules)
     (λ c. search rules)
-    (λ c. omega (arith, c.shared-slice-known6.given (failing c).loop.d))
+    (λ c. omega (arith, c.shared_slice_known-then-margin_between-lt0-1.given (failing c).loop-sum.d))
     (λ c. search rules)
     (λ c. search rules)
     (λ c. search rules)
@@ -102,7 +102,7 @@ judge-spec =
     (λ c. search rules)
     (λ c. search rules)
     (λ c. omega (arith, added c))
-    (λ c. omega (arith, added c, (start (head c)).pre.within, (start (head c)).pre.fewer))
+    (λ c. omega (arith, added c, (start (head c)).requires.within, (start (head c)).requires.fewer))
     (λ c. search rules)
     (λ c. search rules)
     loop-again

@@ -27,20 +27,20 @@ tested : (s : tie.Start) (t : Bool) → let a = s.args in
 tested s t e =
     (λ i. not s.args.unlimited && le_z (sym (minus_read _ _ (above-small s)) i) (sym (minus_read _ _ (below-small s)) i)) ∙ e
 
-returns : tie.Need-returns
+returns : tie.Need-returns-then-unlimited-above
 returns c =
-    let a = c.before.args in
+    let a = c.args in
     minus_read _ _ (above-small c.before)
-    ∙ margin_above a.unlimited a.ceiling a.least a.sum (tested c.before true c.if1.true)
+    ∙ margin_above a.unlimited a.ceiling a.least a.sum (tested c.before true c.if-unlimited-above.true)
 
-returns-2 : tie.Need-returns-2
+returns-2 : tie.Need-returns-else-unlimited-above
 returns-2 c =
-    let a = c.before.args in
+    let a = c.args in
     minus_read _ _ (below-small c.before)
-    ∙ margin_below a.unlimited a.ceiling a.least a.sum (tested c.before false c.if1.false)
+    ∙ margin_below a.unlimited a.ceiling a.least a.sum (tested c.before false c.if-unlimited-above.false)
 
-pub margin-between-spec : {M : Type 1} → statement M
-margin-between-spec =
+pub margin_between_spec : {M : Type 1} → statement M
+margin_between_spec =
     tie.close
     (tie.spec
     (λ c. search rules)

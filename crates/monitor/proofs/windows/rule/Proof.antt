@@ -9,29 +9,27 @@ use Rattle.monitor.proofs.Ruling.{as_earlier, as_first, as_next}
 use Rattle.monitor.proofs.windows.rule.Statement.{statement}
 use Rattle.monitor.proofs.windows.rule.Tie as tie
 
-returns : tie.Need-returns
+returns : tie.Need-returns-then-not-earlier
 returns c =
-    let s = c.before.before.before.before.before in
-    as_earlier s.args.earlier _ _ _ _ _ (not-true s.args.earlier.passes c.if1.true)
+    as_earlier c.args.earlier _ _ _ _ _ (not-true c.args.earlier.passes c.if-not-earlier.true)
 
 -- Where the tick passed.
-passed : (e : tie.Else1) → e.before.before.before.before.before.args.earlier.passes ≡ true
-passed e = not-false e.before.before.before.before.before.args.earlier.passes e.if1.false
+passed : (e : tie.Else-not-earlier) → e.args.earlier.passes ≡ true
+passed e = not-false e.args.earlier.passes e.if-not-earlier.false
 
-returns-2 : tie.Need-returns-2
+returns-2 : tie.Need-returns-then-margin-eq0
 returns-2 c =
     let first = c.before in
     let e = first.before.before.before in
-    let s = e.before.before.before.before.before in
-    as_first s.args.earlier _ _ _ _ _ _ (passed e) first.if2.true
+    as_first e.args.earlier _ _ _ _ _ _ (passed e) first.if-margin-eq0.true
     c.measure.ensures
 
 -- Where it has a margin.
-abbrev start : tie.Else2 → tie.Start
+abbrev start : tie.Else-margin-eq0 → tie.Start
 start n = n.before.before.before.before.before.before.before.before
 
-measured : (n : tie.Else2) → ¬ ((start n).args.earlier.margin.window ≡ 0)
-measured n = n.if2.false
+measured : (n : tie.Else-margin-eq0) → ¬ ((start n).args.earlier.margin.window ≡ 0)
+measured n = n.if-margin-eq0.false
 
 keeps-requires : tie.Need-keeps-requires
 keeps-requires c κs =
@@ -40,21 +38,21 @@ keeps-requires c κs =
 abbrev All : tie.Start → Type 0
 All s = let a = s.args in Keeps (pair_of a.upper.now a.lower.now) (then a.ticks.now a.count)
 
-returns-3 : tie.Need-returns-3
+returns-3 : tie.Need-returns-then-keeps
 returns-3 c =
     let n = c.before.before in
     let s = start n in
-    let found = c.before.keeps in
+    let found = c.keeps in
     as_next s.args.earlier _ _ _ _ _ _ (passed n.before.before.before) (measured n)
-    (inl (either_true (All s) (¬ All s) found.result c.if3.true found.ensures, refl))
+    (inl (either_true (All s) (¬ All s) found.result c.if-keeps.true found.ensures, refl))
 
-returns-4 : tie.Need-returns-4
+returns-4 : tie.Need-returns
 returns-4 c =
     let n = c.before.before in
     let s = start n in
-    let found = c.before.keeps in
+    let found = c.keeps in
     as_next s.args.earlier _ _ _ _ _ _ (passed n.before.before.before) (measured n)
-    (inr (either_false (All s) (¬ All s) found.result c.if3.false found.ensures, refl))
+    (inr (either_false (All s) (¬ All s) found.result c.if-keeps.false found.ensures, refl))
 
-pub rule-spec : {M : Type 1} → statement M
-rule-spec = tie.close (tie.spec returns (λ c κs. search rules) returns-2 keeps-requires returns-3 returns-4)
+pub rule_spec : {M : Type 1} → statement M
+rule_spec = tie.close (tie.spec returns (λ c κs. search rules) returns-2 keeps-requires returns-3 returns-4)

@@ -16,26 +16,26 @@ use Rattle.monitor.proofs.windows.tighter.Tie as tie
 abbrev other : tie.Start → ℤ
 other s = let a = s.args in margin_with a.unlimited a.ceiling a.least a.sum
 
-read : (k : tie.After-margin-between) → to_z w64 (of_z w64 k.margin-between.result) ≡ other k.before
-read k = let j = k.margin-between in result_read j.result _ (record { sfits = j.type-inv }) j.ensures
+read : (k : tie.After-margin_between-value) → to_z w64 (of_z w64 k.margin_between-value.result) ≡ other k.before
+read k = let j = k.margin_between-value in result_read j.result _ (record { sfits = j.type-inv }) j.ensures
 
 -- What the test tells.
-tested : (k : tie.After-margin-between) (t : Bool) → let best = k.before.args.best in
-    lt_z (to_z w64 (of_z w64 k.margin-between.result)) (to_z w64 (of_z w64 best.value)) ≡ t → t ≡ lt_z (other k.before) best.value
+tested : (k : tie.After-margin_between-value) (t : Bool) → let best = k.args.best in
+    lt_z (to_z w64 (of_z w64 k.margin_between-value.result)) (to_z w64 (of_z w64 best.value)) ≡ t → t ≡ lt_z (other k.before) best.value
 tested k t e =
-    let f : SFits w64 k.before.args.best.value = search rules in sym e ∙ (λ i. lt_z (read k i) (to_z-of_z f i))
+    let f : SFits w64 k.args.best.value = search rules in sym e ∙ (λ i. lt_z (read k i) (to_z-of_z f i))
 
 -- Either margin, by the test.
 abbrev either : tie.Start → Bool → Margin
 either s t = cond t (record { value = other s; window = s.args.window }) s.args.best
 
-returns : tie.Need-returns
+returns : tie.Need-returns-then-value-best
 returns c =
     let k = c.before.before.before in
-    ap (λ z. record { value = z; window = k.before.args.window }) (read k) ∙ ap (either k.before) (tested k true c.if1.true)
+    ap (λ z. record { value = z; window = k.args.window }) (read k) ∙ ap (either k.before) (tested k true c.if-value-best.true)
 
-returns-2 : tie.Need-returns-2
-returns-2 c = let k = c.before.before.before in ap (either k.before) (tested k false c.if1.false)
+returns-2 : tie.Need-returns
+returns-2 c = let k = c.before.before.before in ap (either k.before) (tested k false c.if-value-best.false)
 
-pub tighter-spec : {M : Type 1} → statement M
-tighter-spec = tie.close (tie.spec (λ c κs. search rules) returns returns-2)
+pub tighter_spec : {M : Type 1} → statement M
+tighter_spec = tie.close (tie.spec (λ c κs. search rules) returns returns-2)

@@ -6,20 +6,20 @@ use Rattle.laws.proofs.Writing.{wrote_length, wrote_none, wrote-entry, wrote-who
 use Rattle.rendering.proofs.write.bytes.Statement.{statement}
 use Rattle.rendering.proofs.write.bytes.Tie as tie
 
-abbrev invariant-loop : tie.invariant-loop
+abbrev invariant-loop : tie.invariant-loop-i
 invariant-loop text out₀ at i₀ out i = (i ≤ length text) × (length out ≡ length out₀) × Wrote out₀ at (take i text) out (at + i)
 
-abbrev decreases-loop : tie.decreases-loop
+abbrev decreases-loop : tie.decreases-loop-i
 decreases-loop text out₀ at i₀ out i = length text - i
 
-loop-again : tie.Need-loop-preserved invariant-loop decreases-loop
+loop-again : tie.Need-loop-i-preserved invariant-loop decreases-loop
 loop-again c =
-    let head = c.before.before.loop in
-    let w = wrote-entry c.before.before.before.args.text.now _ _ _ head.i (omega arith) head.invariant.2 in
+    let head = c.loop-i in
+    let w = wrote-entry c.args.text.now _ _ _ head.i (omega arith) head.invariant.2 in
     (omega arith, wrote_length w, w)
 
-pub bytes-spec : {M : Type 1} → statement M
-bytes-spec =
+pub bytes_spec : {M : Type 1} → statement M
+bytes_spec =
     tie.close
     (tie.spec
     invariant-loop
@@ -33,4 +33,4 @@ bytes-spec =
     loop-again
     (λ c. search rules)
     (λ c. search rules)
-    (λ c. wrote-whole _ _ _ _ c.before.loop.i (omega arith) c.before.loop.invariant.2))
+    (λ c. wrote-whole _ _ _ _ c.loop-i.i (omega arith) c.loop-i.invariant.2))

@@ -7,18 +7,17 @@ use Rattle.rendering.proofs.write.most_field.Tie as tie
 
 number-requires : tie.Need-number-requires
 number-requires c κs =
-    let args = c.before.before.before.args in
-    omega (arith, c.before.before.before.requires, ap length (field_given args.capped args.most c.before.if1.true))
+    let args = c.args in
+    omega (arith, c.requires, ap length (field_given args.capped args.most c.if-capped.true))
 
-returns : tie.Need-returns
+returns : tie.Need-returns-then-capped
 returns c =
-    let k = c.before.before.before.before in
-    let args = k.before.before.args in
-    rw (field_given args.capped args.most k.if1.true) c.before.before.number.ensures
+    let args = c.args in
+    rw (field_given args.capped args.most c.if-capped.true) c.number.ensures
 
-returns-2 : tie.Need-returns-2
+returns-2 : tie.Need-returns
 returns-2 c =
-    let args = c.before.before.args in field_none args.capped args.most _ _ c.if1.false
+    let args = c.args in field_none args.capped args.most _ _ c.if-capped.false
 
-pub most-field-spec : {M : Type 1} → statement M
-most-field-spec = tie.close (tie.spec number-requires (λ c. search rules) returns returns-2)
+pub most_field_spec : {M : Type 1} → statement M
+most_field_spec = tie.close (tie.spec number-requires (λ c. search rules) returns returns-2)

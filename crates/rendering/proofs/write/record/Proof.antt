@@ -14,13 +14,12 @@ returns c =
     let comma = most.before.before.before.before in
     let least = comma.before.before.before.before.before in
     let first = least.before.before.before.before in
-    let window = first.before.before.before.before.before in
-    let two = wrote_more window.number.ensures first.bytes.ensures in
-    let four = wrote_more (wrote_more two least.number2.ensures) comma.bytes2.ensures in
-    wrote_more (wrote_more four most.most-field.ensures) end.bytes3.ensures
+    let two = wrote_more first.number-after_window.ensures first.bytes-second.ensures in
+    let four = wrote_more (wrote_more two least.number-after_least.ensures) comma.bytes-third.ensures in
+    wrote_more (wrote_more four most.most_field-after_most.ensures) end.bytes.ensures
 
-pub record-spec : {M : Type 1} → statement M
-record-spec =
+pub record_spec : {M : Type 1} → statement M
+record_spec =
     tie.close
     (tie.spec
     (λ c κs. search rules)

@@ -11,11 +11,10 @@ unfolding refusal_line
 returns c =
     let end = c.before.before in
     let number = end.before.before.before.before.before in
-    let word = number.before.before.before.before in
-    wrote_more (wrote_more word.bytes.ensures number.number.ensures) end.bytes2.ensures
+    wrote_more (wrote_more number.bytes-after_word.ensures number.number-after_number.ensures) end.bytes.ensures
 
-pub refusal-line-spec : {M : Type 1} → statement M
-refusal-line-spec =
+pub refusal_line_spec : {M : Type 1} → statement M
+refusal_line_spec =
     tie.close
     (tie.spec
     (λ c. search rules)

@@ -10,8 +10,8 @@ use Rattle.scripts.proofs.Held.{first_sent}
 use borrow.Author.Rules.{rules}
 use Rattle.scripts.proofs.generating.send_first.Statement.{statement}
 use Rattle.scripts.proofs.generating.send_first.Tie as tie
-use Rattle.scripts.proofs.sending.send_first.Reads as send-first-reads
-use Rattle.scripts.proofs.words.hold.Reads as hold-reads
+use Rattle.scripts.proofs.sending.send_first.Reads as send_first_reads
+use Rattle.scripts.proofs.words.hold.Reads as hold_reads
 
 sizes : (s : tie.Start) → Sizes (history_from s.args.state.now)
 sizes s = legal_sizes (history_from s.args.state.now) s.requires.0.1
@@ -19,35 +19,35 @@ sizes s = legal_sizes (history_from s.args.state.now) s.requires.0.1
 enough : (s : tie.Start) → generator_words ≤ length s.args.state.now
 enough s = omega (arith, s.requires.0.0)
 
-cast-horizon : tie.Need-overflow-cast-horizon
-cast-horizon c = omega (arith, c.slice-known3.given 0)
+cast-horizon : tie.Need-overflow_cast-horizon
+cast-horizon c = omega (arith, c.slice_known-3-1.given 0)
 
-cast-held : tie.Need-overflow-cast-held
-cast-held c = omega (arith, c.slice-known4.given 514)
+cast-held : tie.Need-overflow_cast-held
+cast-held c = omega (arith, c.slice_known-4-1.given 514)
 
-add-send-first : tie.Need-overflow-add-send-first
+add-send-first : tie.Need-overflow_add-horizon
 add-send-first c = omega (arith, (sizes c.before.before.before.before.before).within)
 
-part-send-first-end : tie.Need-slice-bounds-send-first-end
+part-send-first-end : tie.Need-slice_bounds-send_first-end
 part-send-first-end c =
     omega (
       arith,
       (sizes c.before.before.before.before.before.before).within,
-      c.before.before.before.before.before.before.requires.0.0,
+      c.requires.0.0,
     )
 
-add-send-first-2 : tie.Need-overflow-add-send-first-2
+add-send-first-2 : tie.Need-overflow_add-horizon-2
 add-send-first-2 c = omega (arith, (sizes c.before.before.before.before.before.before.before).within)
 
-part-send-first-end-2 : tie.Need-slice-bounds-send-first-end-2
+part-send-first-end-2 : tie.Need-slice_bounds-send_first-end-2
 part-send-first-end-2 c =
     omega (
       arith,
       (sizes c.before.before.before.before.before.before.before).within,
-      c.before.before.before.before.before.before.before.requires.0.0,
+      c.requires.0.0,
     )
 
-add-send-first-3 : tie.Need-overflow-add-send-first-3
+add-send-first-3 : tie.Need-overflow_add-held
 add-send-first-3 c =
     omega (
       arith,
@@ -56,17 +56,17 @@ add-send-first-3 c =
           c.before.before.before.before.before.before.before.before).fewer,
     )
 
-part-send-first-end-3 : tie.Need-slice-bounds-send-first-end-3
+part-send-first-end-3 : tie.Need-slice_bounds-send_first-end-3
 part-send-first-end-3 c =
     omega (
       arith,
       (sizes c.before.before.before.before.before.before.before.before).within,
       (sizes
           c.before.before.before.before.before.before.before.before).fewer,
-      c.before.before.before.before.before.before.before.before.requires.0.0,
+      c.requires.0.0,
     )
 
-send-first-requires : tie.Need-send-first-requires
+send-first-requires : tie.Need-send_first-n-requires
 send-first-requires c κs =
     let s = c.before.before.before.before.before.before.before.before.before.before in
     let ws = s.args.state.now in (
@@ -80,29 +80,29 @@ send-first-requires c κs =
       ),
     )
 
-slice-aggregate-hold : tie.Need-slice-aggregate-hold
+slice-aggregate-hold : tie.Need-slice_bounds-hold-end-2
 slice-aggregate-hold c =
-    let sent = c.before.before.before.before.send-first.ensures in sym
+    let sent = c.send_first-n.ensures in sym
     (length-take-le _ _ (omega (
       arith,
       sent.within,
       sent.whole,
-      c.before.before.before.before.before.before.before.before.before.before.before.before.before.before.before.requires.1,
+      c.requires.1,
     )))
 
 returns : tie.Need-returns
 returns c =
     let s = c.before.before.before.before.before.before.before.before.before.before.before.before.before.before.before.before.before.before in
     let ws = s.args.state.now in
-    first_sent ws s.pre.0 _ s.args.counts.now _ _ c.before.before.before.before.before.before.before.send-first.result
+    first_sent ws s.requires.0 _ s.args.counts.now _ _ c.send_first-n.result
     (subst (λ v. SendsFirst v s.args.choices.now s.args.counts.now
-    c.before.before.before.before.before.before.before.send-first.new.1.1.1.1.1.0
-    c.before.before.before.before.before.before.before.send-first.result)
+    c.send_first-n.new.1.1.1.1.1.0
+    c.send_first-n.result)
     (view_seen ws (enough s) (sizes s).within (word 514 ws) (omega (arith, (sizes s).within, (sizes s).fewer)) refl)
-    c.before.before.before.before.before.before.before.send-first.ensures) s.pre.1 c.before.before.hold.ensures
+    c.send_first-n.ensures) s.requires.1 c.hold.ensures
 
-pub send-first-spec : {M : Type 1} → statement M
-send-first-spec =
+pub send_first_spec : {M : Type 1} → statement M
+send_first_spec =
     tie.close
     (tie.spec
     (λ c. search rules)

@@ -9,40 +9,40 @@ use Rattle.scripts.proofs.Written.{sent_fit}
 use borrow.Author.Rules.{rules}
 use Rattle.scripts.proofs.generating.send_rest.Statement.{statement}
 use Rattle.scripts.proofs.generating.send_rest.Tie as tie
-use Rattle.scripts.proofs.generating.send_all.Reads as send-all-reads
-use Rattle.scripts.proofs.words.read_history.Reads as read-history-reads
-use Rattle.scripts.proofs.words.write_held.Reads as write-held-reads
+use Rattle.scripts.proofs.generating.send_all.Reads as send_all_reads
+use Rattle.scripts.proofs.words.read_history.Reads as read_history_reads
+use Rattle.scripts.proofs.words.write_held.Reads as write_held_reads
 
 -- Where all choices are sent.
-abbrev start : tie.After-send-all → tie.Start
+abbrev start : tie.After-send_all-left → tie.Start
 start j = j.before.before.before.before.before.before.before
 
-told : (j : tie.After-send-all)
-    → SentByValue (view_of (history_from (start j).args.state.now)) (start j).args.choices.now j.send-all.new.1.1.0
-    j.send-all.result
+told : (j : tie.After-send_all-left)
+    → SentByValue (view_of (history_from (start j).args.state.now)) (start j).args.choices.now j.send_all-left.new.1.1.0
+    j.send_all-left.result
 told j =
     subst
-    (λ (h : History). SentByValue (view_of h) (start j).args.choices.now j.send-all.new.1.1.0 j.send-all.result)
-    j.before.before.read_history.ensures j.send-all.ensures
+    (λ (h : History). SentByValue (view_of h) (start j).args.choices.now j.send_all-left.new.1.1.0 j.send_all-left.result)
+    j.read_history-history.ensures j.send_all-left.ensures
 
-write-held-requires : tie.Need-write-held-requires
+write-held-requires : tie.Need-write_held-requires
 write-held-requires c κs =
     let j = c.before.before.before in (
       omega (arith, (start j).requires.0.0),
       sent_fit (start j).args.state.now (start j).requires.0
-          (start j).args.choices.now j.send-all.result.history (told j).state,
+          (start j).args.choices.now j.send_all-left.result.history (told j).state,
     )
 
 returns : tie.Need-returns
 returns c =
     let j = c.before.before.before.before.before.before in
     record {
-      state = c.before.before.write-held.ensures ∙ ap (λ (v : View). with_held (start j).args.state.now v.held) (told j).state;
+      state = c.write_held.ensures ∙ ap (λ (v : View). with_held (start j).args.state.now v.held) (told j).state;
       counts = (told j).counts;
     }
 
-pub send-rest-spec : {M : Type 1} → statement M
-send-rest-spec =
+pub send_rest_spec : {M : Type 1} → statement M
+send_rest_spec =
     tie.close
     (tie.spec
     (λ c κs. search rules)

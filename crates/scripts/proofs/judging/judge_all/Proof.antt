@@ -20,49 +20,47 @@ use Rattle.scripts.proofs.Running.{failed_verdicts, failed_margins, failed_after
 use Rattle.scripts.proofs.judging.judge_all.Statement.{statement}
 use Rattle.scripts.proofs.judging.judge_all.Tie as tie
 
-abbrev invariant-loop : tie.invariant-loop
+abbrev invariant-loop : tie.invariant-loop-i
 invariant-loop counts verdicts₀ margins₀ monitor₀ i₀ verdicts margins monitor i =
     (i ≤ length counts) × (length verdicts ≡ length verdicts₀) × (length margins ≡ length margins₀)
     × (verdicts ≡ over (codes (monitor_view_of monitor₀) (take i counts)) verdicts₀)
     × (margins ≡ over (values (monitor_view_of monitor₀) (take i counts)) margins₀)
     × (monitor_view_of monitor ≡ after_ticks (monitor_view_of monitor₀) (take i counts))
 
-abbrev decreases-loop : tie.decreases-loop
+abbrev decreases-loop : tie.decreases-loop-i
 decreases-loop counts verdicts₀ margins₀ monitor₀ i₀ verdicts margins monitor i = length counts - i
 
-loop-holds : tie.Need-loop-init invariant-loop decreases-loop
+loop-holds : tie.Need-loop-i-init invariant-loop decreases-loop
 unfolding rulings margins after_ticks
 loop-holds c = (omega arith, refl, refl, over_none _, over_none _, refl)
 
-verdict-code-requires : tie.Need-verdict-code-requires invariant-loop decreases-loop
-verdict-code-requires c κs = names_window _ _ c.tick.result.verdict c.tick.ensures.answer
+verdict-code-requires : tie.Need-verdict_code-requires invariant-loop decreases-loop
+verdict-code-requires c κs = names_window _ _ c.tick-judgement.result.verdict c.tick-judgement.ensures.answer
 
 -- ---- a turn
-add-i : tie.Need-overflow-add-i invariant-loop decreases-loop
+add-i : tie.Need-overflow_add-i invariant-loop decreases-loop
 add-i c =
-    let test = c.before.before.before.before.before.before.before.before.before.before in
-    omega (arith, test.loop-test.true)
+    omega (arith, c.loop-i-test.true)
 
-loop-again : tie.Need-loop-preserved invariant-loop decreases-loop
+loop-again : tie.Need-loop-i-preserved invariant-loop decreases-loop
 loop-again c =
     let told = c.before.before.before.before.before.before in
     let test = told.before.before.before.before in
-    let head = test.before.loop in
-    let start = test.before.before.before.before in
-    let inside = test.loop-test.true in
-    let w = monitor_view_of start.args.opened in
-    let fits : SFits w64 told.tick.result.margin = search rules in
+    let head = test.loop-i in
+    let inside = test.loop-i-test.true in
+    let w = monitor_view_of test.args.opened in
+    let fits : SFits w64 told.tick-judgement.result.margin = search rules in
     let m = monitor_view_of head.monitor in (
       omega (arith, inside),
       search rules,
       search rules,
-      verdict_put w start.args.counts.now head.i inside m head.invariant.5 start.args.verdicts.now head.verdicts _
+      verdict_put w test.args.counts.now head.i inside m head.invariant.5 test.args.verdicts.now head.verdicts _
           head.invariant.3
-          (c.before.before.before.before.before.verdict-code.ensures ∙ ap ruling_code told.tick.ensures.answer),
-      c.before.before.put-margin.ensures ∙ margin_put w start.args.counts.now head.i inside m head.invariant.5
-          start.args.margins.now head.margins _ head.invariant.4
-          (result_read told.tick.result.margin _ fits (ap (λ (r : Margin). r.value) told.tick.ensures.margin)),
-      tick_on w start.args.counts.now head.i inside m head.invariant.5 _ (monitor_next _ _ _ told.tick.ensures),
+          (c.verdict_code.ensures ∙ ap ruling_code told.tick-judgement.ensures.answer),
+      c.put_margin.ensures ∙ margin_put w test.args.counts.now head.i inside m head.invariant.5
+          test.args.margins.now head.margins _ head.invariant.4
+          (result_read told.tick-judgement.result.margin _ fits (ap (λ (r : Margin). r.value) told.tick-judgement.ensures.margin)),
+      tick_on w test.args.counts.now head.i inside m head.invariant.5 _ (monitor_next _ _ _ told.tick-judgement.ensures),
     )
 
 -- ---- the ways out
@@ -71,48 +69,46 @@ first_of true b e = refl
 first_of false b e = e
 
 -- Where the monitor has failed it judges no more of the counts: they are left from i on.
-returns : tie.Need-returns invariant-loop decreases-loop
+returns : tie.Need-returns-then-monitor-i invariant-loop decreases-loop
 returns c =
-    let found = c.before.before.before.reject-from in
+    let found = c.reject_from in
     let e = c.before.before.before.before.before.before in
-    let h = e.before.before.before.loop in
-    let s = e.before.before.before.before.before.before in
-    let xs = s.args.counts.now in
-    let w = monitor_view_of s.args.opened in
+    let h = e.loop-i in
+    let xs = e.args.counts.now in
+    let w = monitor_view_of e.args.opened in
     let m = monitor_view_of h.monitor in
     let legal : LegalMonitor m =
-    subst⁻¹ LegalMonitor h.invariant.5 (stays_legal w _ s.requires.1 (stays_ticks w (take h.i xs) s.requires.1)) in
-    let failed = first_of m.failed _ e.if1.true in
-    let n = length s.args.verdicts.now - h.i in
-    let left : h.i + n ≡ length xs = omega (arith, s.requires.0, e.before.before.loop-test.true) in
+    subst⁻¹ LegalMonitor h.invariant.5 (stays_legal w _ e.requires.1 (stays_ticks w (take h.i xs) e.requires.1)) in
+    let failed = first_of m.failed _ e.if-monitor-i.true in
+    let n = length e.args.verdicts.now - h.i in
+    let left : h.i + n ≡ length xs = omega (arith, e.requires.0, e.loop-i-test.true) in
     let many : length h.verdicts - h.i ≡ n = ap (λ k. k - h.i) h.invariant.1 in
     record {
       state = failed_after w xs m legal failed n h.i left h.invariant.5;
       verdicts =
           found.ensures.0 ∙ ap (λ k. filled_from 3_000 h.i k h.verdicts) many
-          ∙ failed_verdicts w xs m legal failed n h.i left h.invariant.5 s.args.verdicts.now h.verdicts h.invariant.3
-          ∙ over_whole (codes w xs) s.args.verdicts.now (s.requires.0 ∙ sym (codes_length w xs));
+          ∙ failed_verdicts w xs m legal failed n h.i left h.invariant.5 e.args.verdicts.now h.verdicts h.invariant.3
+          ∙ over_whole (codes w xs) e.args.verdicts.now (e.requires.0 ∙ sym (codes_length w xs));
       margins_left =
           found.ensures.1 ∙ ap (λ k. filled_from (pos 0) h.i k h.margins) many
-          ∙ failed_margins w xs m legal failed n h.i left h.invariant.5 s.args.margins.now h.margins h.invariant.4;
+          ∙ failed_margins w xs m legal failed n h.i left h.invariant.5 e.args.margins.now h.margins h.invariant.4;
     }
 
 -- Or no count is left.
-returns-2 : tie.Need-returns-2 invariant-loop decreases-loop
+returns-2 : tie.Need-returns invariant-loop decreases-loop
 returns-2 c =
-    let end = c.before.loop in
-    let start = c.before.before.before.before in
-    let xs = start.args.counts.now in
-    let w = monitor_view_of start.args.opened in
-    let all = take_all end.i xs c.loop-test.false in
+    let end = c.loop-i in
+    let xs = c.args.counts.now in
+    let w = monitor_view_of c.args.opened in
+    let all = take_all end.i xs c.loop-i-test.false in
     record {
       state = end.invariant.5 ∙ ap (after_ticks w) all;
-      verdicts = put_all codes codes_length w xs end.i c.loop-test.false start.args.verdicts.now _ start.requires.0 end.invariant.3;
-      margins_left = end.invariant.4 ∙ ap (λ t. over (values w t) start.args.margins.now) all;
+      verdicts = put_all codes codes_length w xs end.i c.loop-i-test.false c.args.verdicts.now _ c.requires.0 end.invariant.3;
+      margins_left = end.invariant.4 ∙ ap (λ t. over (values w t) c.args.margins.now) all;
     }
 
-pub judge-all-spec : {M : Type 1} → statement M
-judge-all-spec =
+pub judge_all_spec : {M : Type 1} → statement M
+judge_all_spec =
     tie.close
     (tie.spec
     invariant-loop

@@ -14,9 +14,9 @@ use Rattle.scripts.proofs.Held.{none_judged, first_judged}
 use borrow.Author.Rules.{rules}
 use Rattle.scripts.proofs.judging.judge_first.Statement.{statement}
 use Rattle.scripts.proofs.judging.judge_first.Tie as tie
-use Rattle.scripts.proofs.words.fill.Reads as fill-reads
-use Rattle.scripts.proofs.passing.count_passing.Reads as count-passing-reads
-use Rattle.scripts.proofs.words.hold.Reads as hold-reads
+use Rattle.scripts.proofs.words.fill.Reads as fill_reads
+use Rattle.scripts.proofs.passing.count_passing.Reads as count_passing_reads
+use Rattle.scripts.proofs.words.hold.Reads as hold_reads
 
 sizes : (s : tie.Start) → Sizes (history_from s.args.state.now)
 sizes s = legal_sizes (history_from s.args.state.now) s.requires.0.1.given
@@ -38,62 +38,62 @@ seen s unset =
     monitor_seen ws s.requires.0.0 (sizes s).within (word 514 ws) false (omega (arith, (sizes s).within, (sizes s).fewer)) refl
     (ap mark_from unset)
 
-returns : tie.Need-returns
+returns : tie.Need-returns-then-state-gt0
 returns c =
-    none_judged c.before.before.before.before.before.args.state.now c.before.before.before.before.before.requires.0 _ _
+    none_judged c.args.state.now c.requires.0 _ _
 
-cast-horizon : tie.Need-overflow-cast-horizon
-cast-horizon c = omega (arith, c.slice-known4.given 0)
+cast-horizon : tie.Need-overflow_cast-horizon
+cast-horizon c = omega (arith, c.slice_known-4-1.given 0)
 
-cast-held : tie.Need-overflow-cast-held
-cast-held c = omega (arith, c.slice-known5.given 514)
+cast-held : tie.Need-overflow_cast-held
+cast-held c = omega (arith, c.slice_known-5-1.given 514)
 
-add-count-passing : tie.Need-overflow-add-count-passing
+add-count-passing : tie.Need-overflow_add-horizon
 add-count-passing c = omega (arith, (sizes c.before.before.before.before.before.before.before).within)
 
-part-count-passing-end : tie.Need-slice-bounds-count-passing-end
+part-count-passing-end : tie.Need-slice_bounds-count_passing-end
 part-count-passing-end c =
     omega (
       arith,
       (sizes c.before.before.before.before.before.before.before.before).within,
-      c.before.before.before.before.before.before.before.before.requires.0.0,
+      c.requires.0.0,
     )
 
-add-count-passing-2 : tie.Need-overflow-add-count-passing-2
+add-count-passing-2 : tie.Need-overflow_add-horizon-2
 add-count-passing-2 c = omega (arith, (sizes c.before.before.before.before.before.before.before.before.before).within)
 
-part-count-passing-end-2 : tie.Need-slice-bounds-count-passing-end-2
+part-count-passing-end-2 : tie.Need-slice_bounds-count_passing-end-2
 part-count-passing-end-2 c =
     omega (
       arith,
       (sizes c.before.before.before.before.before.before.before.before.before).within,
-      c.before.before.before.before.before.before.before.before.before.requires.0.0,
+      c.requires.0.0,
     )
 
-add-count-passing-3 : tie.Need-overflow-add-count-passing-3
+add-count-passing-3 : tie.Need-overflow_add-horizon-3
 add-count-passing-3 c = omega (arith, (sizes c.before.before.before.before.before.before.before.before.before.before).within)
 
-part-count-passing-end-3 : tie.Need-slice-bounds-count-passing-end-3
+part-count-passing-end-3 : tie.Need-slice_bounds-count_passing-end-3
 part-count-passing-end-3 c =
     omega (
       arith,
       (sizes c.before.before.before.before.before.before.before.before.before.before).within,
-      c.before.before.before.before.before.before.before.before.before.before.requires.0.0,
+      c.requires.0.0,
     )
 
-add-count-passing-4 : tie.Need-overflow-add-count-passing-4
+add-count-passing-4 : tie.Need-overflow_add-horizon-4
 add-count-passing-4 c =
     omega (arith, (sizes c.before.before.before.before.before.before.before.before.before.before.before).within)
 
-part-count-passing-end-4 : tie.Need-slice-bounds-count-passing-end-4
+part-count-passing-end-4 : tie.Need-slice_bounds-count_passing-end-4
 part-count-passing-end-4 c =
     omega (
       arith,
       (sizes c.before.before.before.before.before.before.before.before.before.before.before).within,
-      c.before.before.before.before.before.before.before.before.before.before.before.requires.0.0,
+      c.requires.0.0,
     )
 
-add-count-passing-5 : tie.Need-overflow-add-count-passing-5
+add-count-passing-5 : tie.Need-overflow_add-held
 add-count-passing-5 c =
     omega (
       arith,
@@ -102,21 +102,21 @@ add-count-passing-5 c =
           c.before.before.before.before.before.before.before.before.before.before.before.before).fewer,
     )
 
-part-count-passing-end-5 : tie.Need-slice-bounds-count-passing-end-5
+part-count-passing-end-5 : tie.Need-slice_bounds-count_passing-end-5
 part-count-passing-end-5 c =
     omega (
       arith,
       (sizes c.before.before.before.before.before.before.before.before.before.before.before.before).within,
       (sizes
           c.before.before.before.before.before.before.before.before.before.before.before.before).fewer,
-      c.before.before.before.before.before.before.before.before.before.before.before.before.requires.0.0,
+      c.requires.0.0,
     )
 
-count-passing-requires : tie.Need-count-passing-requires
+count-passing-requires : tie.Need-count_passing-n-requires
 count-passing-requires c κs =
     let s = c.before.before.before.before.before.before.before.before.before.before.before.before.before in
     let ws = s.args.state.now in
-    let unset : word 1_283 ws ≡ 0 = omega (arith, c.before.before.before.before.before.before.before.before.if1.false) in
+    let unset : word 1_283 ws ≡ 0 = omega (arith, c.if-state-gt0.false) in
     let h = word 0 ws in (
       slices ws 2 258 h (word 514 ws) (enough s) (room s 2 (omega arith)) (room s 258 (omega arith)) (sizes s).within (sizes s).fewer,
       (
@@ -129,38 +129,38 @@ count-passing-requires c κs =
       ),
     )
 
-slice-aggregate-hold : tie.Need-slice-aggregate-hold
-slice-aggregate-hold c = sym (length-take-le _ _ c.before.before.count-passing.ensures.0)
+slice-aggregate-hold : tie.Need-slice_bounds-hold-end
+slice-aggregate-hold c = sym (length-take-le _ _ c.count_passing-n.ensures.0)
 
 hold-requires : tie.Need-hold-requires
 hold-requires c κs =
-    let s = c.before.before.before.before.before.before.before.before.before.before.before.before.before.before.before.before in (enough s, s.pre.0.1.given)
+    let s = c.before.before.before.before.before.before.before.before.before.before.before.before.before.before.before.before in (enough s, s.requires.0.1.given)
 
-slice-aggregate-fill : tie.Need-slice-aggregate-fill
+slice-aggregate-fill : tie.Need-slice_bounds-fill-end-2
 slice-aggregate-fill c =
     sym (length-take-le _ _ (omega (
       arith,
-      c.before.before.before.before.before.before.count-passing.ensures.0,
-      c.before.before.before.before.before.before.before.before.before.before.before.before.before.before.before.before.before.before.before.before.requires.1,
+      c.count_passing-n.ensures.0,
+      c.requires.1,
     )))
 
-returns-2 : tie.Need-returns-2
+returns-2 : tie.Need-returns
 returns-2 c =
     let s = c.before.before.before.before.before.before.before.before.before.before.before.before.before.before.before.before.before.before.before.before.before.before.before in
     let ws = s.args.state.now in
     let unset : word 1_283 ws ≡ 0 = omega (
       arith,
-      c.before.before.before.before.before.before.before.before.before.before.before.before.before.before.before.before.before.before.if1.false,
+      c.if-state-gt0.false,
     ) in
-    first_judged ws s.pre.0 unset s.args.counts.now s.args.verdicts.now
-    c.before.before.before.before.before.before.before.before.before.count-passing.result
-    (subst (λ w. PassesFirst w s.args.counts.now c.before.before.before.before.before.before.before.before.before.count-passing.result) (seen s unset) c.before.before.before.before.before.before.before.before.before.count-passing.ensures)
-    s.pre.1 _ _ c.before.before.before.before.before.before.hold.ensures
-    (ap (λ t. t ++ drop c.before.before.before.before.before.before.before.before.before.count-passing.result
-    s.args.verdicts.now) c.before.before.fill.ensures)
+    first_judged ws s.requires.0 unset s.args.counts.now s.args.verdicts.now
+    c.count_passing-n.result
+    (subst (λ w. PassesFirst w s.args.counts.now c.count_passing-n.result) (seen s unset) c.count_passing-n.ensures)
+    s.requires.1 _ _ c.hold.ensures
+    (ap (λ t. t ++ drop c.count_passing-n.result
+    s.args.verdicts.now) c.fill.ensures)
 
-pub judge-first-spec : {M : Type 1} → statement M
-judge-first-spec =
+pub judge_first_spec : {M : Type 1} → statement M
+judge_first_spec =
     tie.close
     (tie.spec
     (λ c. search rules)

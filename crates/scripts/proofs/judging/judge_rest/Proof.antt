@@ -8,37 +8,36 @@ use Rattle.scripts.proofs.Written.{ticks_fit, left_written}
 use borrow.Author.Rules.{rules}
 use Rattle.scripts.proofs.judging.judge_rest.Statement.{statement}
 use Rattle.scripts.proofs.judging.judge_rest.Tie as tie
-use Rattle.scripts.proofs.judging.judge_all.Reads as judge-all-reads
-use Rattle.scripts.proofs.words.read_monitor.Reads as read-monitor-reads
-use Rattle.scripts.proofs.words.write_failed.Reads as write-failed-reads
-use Rattle.scripts.proofs.words.write_held.Reads as write-held-reads
+use Rattle.scripts.proofs.judging.judge_all.Reads as judge_all_reads
+use Rattle.scripts.proofs.words.read_monitor.Reads as read_monitor_reads
+use Rattle.scripts.proofs.words.write_failed.Reads as write_failed_reads
+use Rattle.scripts.proofs.words.write_held.Reads as write_held_reads
 
 -- The state that goes out is legal.
-judge-all-requires : tie.Need-judge-all-requires
+judge-all-requires : tie.Need-judge_all-left-requires
 judge-all-requires c κs =
     let read = c.before.before in
-    let s = read.before.before.before.before.before in
-    (s.requires.1, subst⁻¹ (λ m. LegalMonitor (monitor_view_of m)) read.read-monitor.ensures s.requires.0.1)
+    (read.requires.1, subst⁻¹ (λ m. LegalMonitor (monitor_view_of m)) read.read_monitor-opened.ensures read.requires.0.1)
 
 -- Where all counts are judged.
-abbrev start : tie.After-judge-all → tie.Start
+abbrev start : tie.After-judge_all-left → tie.Start
 start j = j.before.before.before.before.before.before.before.before
 
-told : (j : tie.After-judge-all)
+told : (j : tie.After-judge_all-left)
     → JudgedByValue (monitor_view_of (monitor_from (start j).args.state.now)) (start j).args.counts.now (start j).args.margins.now
-    j.judge-all.new.1.1.0 j.judge-all.new.1.1.1.0 j.judge-all.result
+    j.judge_all-left.new.1.1.0 j.judge_all-left.new.1.1.1.0 j.judge_all-left.result
 told j =
     subst
-    (λ m. JudgedByValue (monitor_view_of m) (start j).args.counts.now (start j).args.margins.now j.judge-all.new.1.1.0
-    j.judge-all.new.1.1.1.0 j.judge-all.result)
-    j.before.before.before.read-monitor.ensures j.judge-all.ensures
+    (λ m. JudgedByValue (monitor_view_of m) (start j).args.counts.now (start j).args.margins.now j.judge_all-left.new.1.1.0
+    j.judge_all-left.new.1.1.1.0 j.judge_all-left.result)
+    j.read_monitor-opened.ensures j.judge_all-left.ensures
 
-write-held-requires : tie.Need-write-held-requires
+write-held-requires : tie.Need-write_held-requires
 write-held-requires c κs =
     let j = c.before.before.before.before in (
       omega (arith, (start j).requires.0.0),
       ticks_fit (start j).args.state.now
-          (start j).requires.0 (start j).args.counts.now j.judge-all.result (told j).state,
+          (start j).requires.0 (start j).args.counts.now j.judge_all-left.result (told j).state,
     )
 
 returns : tie.Need-returns
@@ -46,14 +45,14 @@ returns c =
     let j = c.before.before.before.before.before.before.before.before.before.before.before in
     let s = start j in
     record {
-      state = left_written s.args.state.now s.pre.0 s.args.counts.now j.judge-all.result (told j).state _ _
-          c.before.before.before.before.before.before.write-held.ensures c.before.before.write-failed.ensures;
+      state = left_written s.args.state.now s.requires.0 s.args.counts.now j.judge_all-left.result (told j).state _ _
+          c.write_held.ensures c.write_failed.ensures;
       verdicts = (told j).verdicts;
       margins_left = (told j).margins_left;
     }
 
-pub judge-rest-spec : {M : Type 1} → statement M
-judge-rest-spec =
+pub judge_rest_spec : {M : Type 1} → statement M
+judge_rest_spec =
     tie.close
     (tie.spec
     (λ c κs. search rules)

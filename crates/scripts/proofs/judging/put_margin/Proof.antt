@@ -5,9 +5,9 @@ use borrow.Author.Rules.{rules}
 use Rattle.scripts.proofs.judging.put_margin.Statement.{statement}
 use Rattle.scripts.proofs.judging.put_margin.Tie as tie
 
-returns-2 : tie.Need-returns-2
-returns-2 c = sym (set_out _ _ _ c.if1.false)
+returns-2 : tie.Need-returns-else-i-margins
+returns-2 c = sym (set_out _ _ _ c.if-i-margins.false)
 
-pub put-margin-spec : {M : Type 1} → statement M
-put-margin-spec =
+pub put_margin_spec : {M : Type 1} → statement M
+put_margin_spec =
     tie.close (tie.spec (λ c. search rules) (λ c. search rules) (λ c. search rules) (λ c. search rules) returns-2)

@@ -10,23 +10,23 @@ use Rattle.scripts.proofs.judging.verdict_code.Statement.{statement}
 use Rattle.scripts.proofs.judging.verdict_code.Tie as tie
 
 -- The window of each kind of verdict that names one is at most 256.
-many : (k : tie.After-verdict) → k.verdict.given.0.0 ≤ max_horizon
-many k = subst NamesWindow k.verdict.given.1 k.before.before.requires
+many : (k : tie.In-TooMany-2) → k.in-TooMany.window ≤ max_horizon
+many k = subst NamesWindow k.in-TooMany.is k.requires
 
-few : (k : tie.After-verdict2) → k.verdict2.given.0.0 ≤ max_horizon
-few k = subst NamesWindow k.verdict2.given.1 k.before.before.requires
+few : (k : tie.In-TooFew-2) → k.in-TooFew.window ≤ max_horizon
+few k = subst NamesWindow k.in-TooFew.is k.requires
 
 abbrev code : Verdict → ℕ
 code v = ruling_code (verdict_reply v)
 
-returns-2 : tie.Need-returns-2
-returns-2 c = sym (ap code c.before.verdict.given.1)
+returns-2 : tie.Need-returns-in-TooMany
+returns-2 c = sym (ap code c.in-TooMany.is)
 
-returns-3 : tie.Need-returns-3
-returns-3 c = sym (ap code c.before.verdict2.given.1)
+returns-3 : tie.Need-returns-in-TooFew
+returns-3 c = sym (ap code c.in-TooFew.is)
 
-pub verdict-code-spec : {M : Type 1} → statement M
-verdict-code-spec =
+pub verdict_code_spec : {M : Type 1} → statement M
+verdict_code_spec =
     tie.close
     (tie.spec
     (λ c. search rules)

@@ -9,67 +9,67 @@ use Rattle.scripts.proofs.passing.count_passing.Statement.{statement}
 use Rattle.scripts.proofs.passing.count_passing.Tie as tie
 
 -- The function's start, from where there is an array for the sums; and its part for them.
-abbrev start : tie.After-no-sums → tie.Start
+abbrev start : tie.After-no_sums-sums → tie.Start
 start z = z.before.before.before.before.before.before.before
 
-few : (z : tie.After-no-sums) → length (start z).args.upper.now + 1 ≤ 257
+few : (z : tie.After-no_sums-sums) → length (start z).args.upper.now + 1 ≤ 257
 few z = omega (arith, (start z).requires.0.within)
 
-long : (z : tie.After-no-sums) → let n = length (start z).args.upper.now + 1 in n ≡ length (take n z.no-sums.result)
-long z = front_length _ _ z.no-sums.ensures (omega arith) (few z)
+long : (z : tie.After-no_sums-sums) → let n = length (start z).args.upper.now + 1 in n ≡ length (take n z.no_sums-sums.result)
+long z = front_length _ _ z.no_sums-sums.ensures (omega arith) (few z)
 
-add-up-requires : tie.Need-add-up-requires
+add-up-requires : tie.Need-add_up-requires
 add-up-requires c κs =
     let z = c.before in
-    (omega (arith, long z, (start z).requires.0.fewer), front_last _ _ z.no-sums.ensures (omega arith) (few z))
+    (omega (arith, long z, (start z).requires.0.fewer), front_last _ _ z.no_sums-sums.ensures (omega arith) (few z))
 
-returns : tie.Need-returns
+returns : tie.Need-returns-then-not-add_up
 unfolding rulings
 returns c = (omega arith, refl)
 
 -- What is left of the part, and that it is what is lent again.
-abbrev begun : tie.After-add-up → tie.After-no-sums
+abbrev begun : tie.After-add_up → tie.After-no_sums-sums
 begun a = a.before.before
 
-abbrev left : tie.After-add-up → List ℕ
-left a = a.add-up.new.1.0
+abbrev left : tie.After-add_up → List ℕ
+left a = a.add_up.new.1.0
 
-abbrev lent : tie.After-add-up → List ℕ
-lent a = let n = length (start (begun a)).args.upper.now + 1 in take n (left a ++ drop n (begun a).no-sums.result)
+abbrev lent : tie.After-add_up → List ℕ
+lent a = let n = length (start (begun a)).args.upper.now + 1 in take n (left a ++ drop n (begun a).no_sums-sums.result)
 
-lent_is : (a : tie.After-add-up) → lent a ≡ left a
-lent_is a = let z = begun a in front_is _ _ z.no-sums.ensures (omega arith) (few z) (left a) a.add-up.ensures.0
+lent_is : (a : tie.After-add_up) → lent a ≡ left a
+lent_is a = let z = begun a in front_is _ _ z.no_sums-sums.ensures (omega arith) (few z) (left a) a.add_up.ensures.0
 
-lent-long : (a : tie.After-add-up) → length (start (begun a)).args.upper.now + 1 ≡ length (lent a)
-lent-long a = long (begun a) ∙ sym a.add-up.ensures.0 ∙ ap length (sym (lent_is a))
+lent-long : (a : tie.After-add_up) → length (start (begun a)).args.upper.now + 1 ≡ length (lent a)
+lent-long a = long (begun a) ∙ sym a.add_up.ensures.0 ∙ ap length (sym (lent_is a))
 
 -- The sums, from where the stricter figures are there; and so what is asked of a pass.
-abbrev added : tie.After-turn-leasts → tie.After-add-up
+abbrev added : tie.After-turn_leasts → tie.After-add_up
 added s = s.before.before.before.before.before.before.before.before.before
 
 -- The two arrays.
-abbrev ceilings : tie.After-turn-leasts → List ℕ
-ceilings s = s.before.before.before.turn-ceilings.new.1.1.1.0
+abbrev ceilings : tie.After-turn_leasts → List ℕ
+ceilings s = s.turn_ceilings.new.1.1.1.0
 
-abbrev leasts : tie.After-turn-leasts → List ℕ
-leasts s = s.turn-leasts.new.1.1.1.0
+abbrev leasts : tie.After-turn_leasts → List ℕ
+leasts s = s.turn_leasts.new.1.1.1.0
 
-array-borrow-prefix-sums-2 : tie.Need-array-borrow-prefix-sums-2
+array-borrow-prefix-sums-2 : tie.Need-slice_bounds-sums-end-2
 array-borrow-prefix-sums-2 c =
     let a = added c.before.before.before in
     let z = begun a in
-    front_room _ _ z.no-sums.ensures (omega arith) (few z) (left a) a.add-up.ensures.0
+    front_room _ _ z.no_sums-sums.ensures (omega arith) (few z) (left a) a.add_up.ensures.0
 
-ceilings-long : (s : tie.After-turn-leasts)
+ceilings-long : (s : tie.After-turn_leasts)
     → let h = length (start (begun (added s))).args.upper.now in h ≡ length (take h (ceilings s))
-ceilings-long s = sym (length-take-le _ _ s.before.before.before.turn-ceilings.ensures.room)
+ceilings-long s = sym (length-take-le _ _ s.turn_ceilings.ensures.room)
 
-leasts-long : (s : tie.After-turn-leasts)
+leasts-long : (s : tie.After-turn_leasts)
     → let h = length (start (begun (added s))).args.upper.now in h ≡ length (take h (leasts s))
 leasts-long s =
     let z = begun (added s) in
     let room : length (start z).args.upper.now ≤ length (leasts s) =
-    omega (arith, s.turn-leasts.ensures.room, (start z).pre.0.lowers) in
+    omega (arith, s.turn_leasts.ensures.room, (start z).requires.0.lowers) in
     sym (length-take-le _ _ room)
 
 pass-requires : tie.Need-pass-requires
@@ -78,28 +78,28 @@ pass-requires c κs =
     let a = added s in
     let args = (start (begun a)).args in
     let pre = (start (begun a)).requires in
-    let kept = a.add-up.ensures.1 (not-false a.add-up.result s.before.before.before.before.before.before.before.if1.false) in (
+    let kept = a.add_up.ensures.1 (not-false a.add_up.result s.if-not-add_up.false-raw) in (
       strict_placed args.upper.now args.lower.now args.unlimited args.closed-upper.now args.closed-lower.now
-          args.ticks.now pre.0 pre.1.0 pre.1.1.0 pre.1.1.1 _ _ s.before.before.before.turn-ceilings.ensures
-          s.turn-leasts.ensures (lent a) (sym (lent-long a)),
+          args.ticks.now pre.0 pre.1.0 pre.1.1.0 pre.1.1.1 _ _ s.turn_ceilings.ensures
+          s.turn_leasts.ensures (lent a) (sym (lent-long a)),
       (
         omega (arith, pre.0.fewer, ceilings-long s),
         subst (KeptSums args.ticks.now (length args.ticks.now)) (sym (lent_is a)) kept,
       ),
     )
 
-returns-2 : tie.Need-returns-2
+returns-2 : tie.Need-returns
 returns-2 c =
     let s = c.before.before.before.before.before.before in
     let z = begun (added s) in
     let args = (start z).args in
-    let pre = (start z).pre in
+    let pre = (start z).requires in
     first_pass args.upper.now args.lower.now args.unlimited args.closed-upper.now args.closed-lower.now
-    args.ticks.now pre.0 pre.1.0 pre.1.1.0 pre.1.1.1 _ _ s.before.before.before.turn-ceilings.ensures
-    s.turn-leasts.ensures args.counts.now _ c.before.pass.ensures
+    args.ticks.now pre.0 pre.1.0 pre.1.1.0 pre.1.1.1 _ _ s.turn_ceilings.ensures
+    s.turn_leasts.ensures args.counts.now _ c.pass.ensures
 
-pub count-passing-spec : {M : Type 1} → statement M
-count-passing-spec =
+pub count_passing_spec : {M : Type 1} → statement M
+count_passing_spec =
     tie.close
     (tie.spec
     (λ c κs. search rules)

@@ -5,8 +5,8 @@ use Rattle.scripts.proofs.Growing.{inside_told}
 use Rattle.scripts.proofs.passing.inside.Statement.{statement}
 use Rattle.scripts.proofs.passing.inside.Tie as tie
 
-pub inside-spec : {M : Type 1} → statement M
-inside-spec =
+pub inside_spec : {M : Type 1} → statement M
+inside_spec =
     tie.close
     (tie.spec
     (λ c. record { sfits = omega (arith, c.requires) })

@@ -7,52 +7,52 @@ use Rattle.scripts.proofs.Keeping.{passing_kept, passing_rest}
 use Rattle.scripts.proofs.passing.pass.Statement.{statement}
 use Rattle.scripts.proofs.passing.pass.Tie as tie
 
-abbrev invariant-loop : tie.invariant-loop
+abbrev invariant-loop : tie.invariant-loop-i
 invariant-loop ceilings leasts sums₀ ticks counts first₀ i₀ sums first i =
     (i ≤ length counts) × (length sums ≡ length sums₀) × Passing ceilings leasts ticks counts sums first i
 
-abbrev decreases-loop : tie.decreases-loop
+abbrev decreases-loop : tie.decreases-loop-i
 decreases-loop ceilings leasts sums₀ ticks counts first₀ i₀ sums first i = length counts - i
 
-loop-holds : tie.Need-loop-init invariant-loop decreases-loop
+loop-holds : tie.Need-loop-i-init invariant-loop decreases-loop
 loop-holds c =
-    let pre = c.before.before.before.before.before.requires in
+    let pre = c.requires in
     (omega arith, refl, passing_none _ _ _ _ pre.1.0 _ pre.1.1)
 
 -- The function's start, from a turn, and that there are places for the sums.
-abbrev start : tie.At-loop invariant-loop decreases-loop → tie.Start invariant-loop decreases-loop
+abbrev start : tie.At-loop-i invariant-loop decreases-loop → tie.Start invariant-loop decreases-loop
 start turn = turn.before.before.before.before.before.before
 
-placed : (turn : tie.At-loop invariant-loop decreases-loop)
-    → Placed turn.loop.sums (start turn).args.ceilings.now (start turn).args.leasts.now
-placed turn = placed_same _ _ _ _ turn.loop.invariant.1 (start turn).requires.0
+placed : (turn : tie.At-loop-i invariant-loop decreases-loop)
+    → Placed turn.loop-i.sums (start turn).args.ceilings.now (start turn).args.leasts.now
+placed turn = placed_same _ _ _ _ turn.loop-i.invariant.1 (start turn).requires.0
 
-some : (turn : tie.At-loop invariant-loop decreases-loop) → 1 ≤ length (start turn).args.ceilings.now
+some : (turn : tie.At-loop-i invariant-loop decreases-loop) → 1 ≤ length (start turn).args.ceilings.now
 some turn = omega (arith, (start turn).requires.1.0)
 
 -- ---- where all windows are judged
-full : (e : tie.Then1 invariant-loop decreases-loop) → let turn = e.before.before in
+full : (e : tie.Then-first-eq0 invariant-loop decreases-loop) → let turn = e.before.before in
     let a = (start turn).args in
-    Passing a.ceilings.now a.leasts.now a.ticks.now a.counts.now turn.loop.sums 0 turn.loop.i
+    Passing a.ceilings.now a.leasts.now a.ticks.now a.counts.now turn.loop-i.sums 0 turn.loop-i.i
 full e =
     let turn = e.before.before in
     let a = (start turn).args in
-    subst (λ f. Passing a.ceilings.now a.leasts.now a.ticks.now a.counts.now turn.loop.sums f turn.loop.i)
-    e.if1.true turn.loop.invariant.2
+    subst (λ f. Passing a.ceilings.now a.leasts.now a.ticks.now a.counts.now turn.loop-i.sums f turn.loop-i.i)
+    e.if-first-eq0.true turn.loop-i.invariant.2
 
-pass-on-requires : tie.Need-pass-on-requires invariant-loop decreases-loop
+pass-on-requires : tie.Need-pass_on-requires invariant-loop decreases-loop
 pass-on-requires c κs =
     let e = c.before.before in
     let turn = e.before.before in
-    (placed turn, (some turn, passing_kept _ _ _ _ _ _ (full e) (some turn) (placed turn) e.before.loop-test.true))
+    (placed turn, (some turn, passing_kept _ _ _ _ _ _ (full e) (some turn) (placed turn) e.loop-i-test.true))
 
 -- The rest of the counts, from where it has been gone through.
-rest : (k : tie.After-pass-on invariant-loop decreases-loop) → let turn = k.before.before.before.before.before in
+rest : (k : tie.After-pass_on invariant-loop decreases-loop) → let turn = k.before.before.before.before.before in
     let a = (start turn).args in
-    KeepFirst a.ceilings.now a.leasts.now a.ticks.now a.counts.now (turn.loop.i + k.pass_on.result)
+    KeepFirst a.ceilings.now a.leasts.now a.ticks.now a.counts.now (turn.loop-i.i + k.pass_on.result)
 rest k =
     let e = k.before.before.before in
-    passing_rest _ _ _ _ _ _ (full e) e.before.loop-test.true k.pass_on.result k.pass_on.ensures
+    passing_rest _ _ _ _ _ _ (full e) e.loop-i-test.true k.pass_on.result k.pass_on.ensures
 
 -- ---- where one count is added
 grow-requires : tie.Need-grow-requires invariant-loop decreases-loop
@@ -60,32 +60,32 @@ grow-requires c κs =
     let counted = c.before.before.before in
     let test = counted.before.before.before in
     let turn = test.before in (
-      passing_placed _ _ _ _ (some turn) turn.loop.invariant.2 (placed turn) test.loop-test.true,
-      (passing_later _ _ _ _ (some turn) turn.loop.invariant.2 (placed turn) test.loop-test.true, omega (arith, counted.if2.false)),
+      passing_placed _ _ _ _ (some turn) turn.loop-i.invariant.2 (placed turn) test.loop-i-test.true,
+      (passing_later _ _ _ _ (some turn) turn.loop-i.invariant.2 (placed turn) test.loop-i-test.true, omega (arith, counted.if-count-gt-SUM_LIMIT.false)),
     )
 
 -- The test of a turn, from where its count is added.
-abbrev tested : tie.After-grow invariant-loop decreases-loop → tie.In-loop invariant-loop decreases-loop
+abbrev tested : tie.After-grow invariant-loop decreases-loop → tie.In-loop-i invariant-loop decreases-loop
 tested grown = grown.before.before.before.before.before.before.before
 
-loop-again : tie.Need-loop-preserved invariant-loop decreases-loop
+loop-again : tie.Need-loop-i-preserved invariant-loop decreases-loop
 loop-again c =
     let grown = c.before.before.before in
     let test = tested grown in
     let turn = test.before in
-    let left = passing_length _ _ _ _ (some turn) turn.loop.inv.2 (placed turn) test.loop-test.taken _ grown.grow.result
-    grown.grow.ensures c.if3.false in (
-      omega (arith, test.loop-test.taken),
-      left ∙ turn.loop.inv.1,
-      passing_more _ _ _ _ (some turn) turn.loop.inv.2 (placed turn) test.loop-test.taken _ grown.grow.result
-          grown.grow.ensures c.if3.false _ refl,
+    let left = passing_length _ _ _ _ (some turn) turn.loop-i.invariant.2 (placed turn) test.loop-i-test.taken _ grown.grow.result
+    grown.grow.ensures c.if-not-grow.false-raw in (
+      omega (arith, test.loop-i-test.taken),
+      left ∙ turn.loop-i.invariant.1,
+      passing_more _ _ _ _ (some turn) turn.loop-i.invariant.2 (placed turn) test.loop-i-test.taken _ grown.grow.result
+          grown.grow.ensures c.if-not-grow.false-raw _ refl,
     )
 
 -- At each way out the counts before i keep the figures.
-passed : (turn : tie.At-loop invariant-loop decreases-loop)
+passed : (turn : tie.At-loop-i invariant-loop decreases-loop)
     → let a = (start turn).args in
-    KeepFirst a.ceilings.now a.leasts.now a.ticks.now a.counts.now turn.loop.i
-passed turn = (turn.loop.invariant.0, turn.loop.invariant.2.keeps)
+    KeepFirst a.ceilings.now a.leasts.now a.ticks.now a.counts.now turn.loop-i.i
+passed turn = (turn.loop-i.invariant.0, turn.loop-i.invariant.2.keeps)
 
 pub pass_spec : {M : Type 1} → statement M
 pass_spec =
@@ -125,7 +125,7 @@ pass_spec =
     (λ c. passed (tested c.before.before.before).before)
     (λ c. search rules)
     (λ c. search rules)
-    (λ c. omega (arith, (tested c.before.before.before).loop-test.taken))
+    (λ c. omega (arith, (tested c.before.before.before).loop-i-test.taken))
     loop-again
     (λ c. search rules)
     (λ c. passed c.before))

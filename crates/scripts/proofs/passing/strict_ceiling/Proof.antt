@@ -5,12 +5,12 @@ use Rattle.scripts.specs.Steps.{strict_ceiling}
 use Rattle.scripts.proofs.passing.strict_ceiling.Statement.{statement}
 use Rattle.scripts.proofs.passing.strict_ceiling.Tie as tie
 
-limited : (e : tie.Else1) → let a = e.before.args in strict_ceiling a.unlimited a.given a.closed ≡ strict_ceiling false
+limited : (e : tie.Else-unlimited) → let a = e.args in strict_ceiling a.unlimited a.given a.closed ≡ strict_ceiling false
     a.given a.closed
-limited e = let a = e.before.args in ap (λ b. strict_ceiling b a.given a.closed) e.if1.false
+limited e = let a = e.args in ap (λ b. strict_ceiling b a.given a.closed) e.if-unlimited.false
 
-pub strict-ceiling-spec : {M : Type 1} → statement M
-strict-ceiling-spec =
+pub strict_ceiling_spec : {M : Type 1} → statement M
+strict_ceiling_spec =
     tie.close
     (tie.spec
     (λ c. search rules)

@@ -5,12 +5,12 @@ use Rattle.scripts.specs.Steps.{strict_least}
 use Rattle.scripts.proofs.passing.strict_least.Statement.{statement}
 use Rattle.scripts.proofs.passing.strict_least.Tie as tie
 
-limited : (e : tie.Else1) → let a = e.before.args in strict_least a.unlimited a.given a.closed ≡ strict_least false a.given
+limited : (e : tie.Else-unlimited) → let a = e.args in strict_least a.unlimited a.given a.closed ≡ strict_least false a.given
     a.closed
-limited e = let a = e.before.args in ap (λ b. strict_least b a.given a.closed) e.if1.false
+limited e = let a = e.args in ap (λ b. strict_least b a.given a.closed) e.if-unlimited.false
 
-pub strict-least-spec : {M : Type 1} → statement M
-strict-least-spec =
+pub strict_least_spec : {M : Type 1} → statement M
+strict_least_spec =
     tie.close
     (tie.spec
     (λ c. search rules)

@@ -7,32 +7,30 @@ use Rattle.scripts.proofs.Growing.{strict_from, strict_from_lem, strict_all}
 use Rattle.scripts.proofs.passing.turn_leasts.Statement.{statement}
 use Rattle.scripts.proofs.passing.turn_leasts.Tie as tie
 
-abbrev invariant-loop : tie.invariant-loop
+abbrev invariant-loop : tie.invariant-loop-i
 invariant-loop lower unlimited closed-lower leasts₀ h i₀ leasts i =
     (i ≤ h) × (length leasts ≡ length leasts₀) × Filled (strict_from (strict_least unlimited) lower closed-lower) leasts₀ leasts i
 
-abbrev decreases-loop : tie.decreases-loop
+abbrev decreases-loop : tie.decreases-loop-i
 decreases-loop lower unlimited closed-lower leasts₀ h i₀ leasts i = h - i
 
-loop-again : tie.Need-loop-preserved invariant-loop decreases-loop
+loop-again : tie.Need-loop-i-preserved invariant-loop decreases-loop
 loop-again c =
     let turn = c.before.before.before.before in
-    let s = turn.before.before.before.before in
-    let args = s.args in (
+    let args = turn.args in (
       omega arith,
       search rules,
-      stored turn.loop.invariant.2 _ (omega (arith, s.requires.0))
-          (c.strict-least.ensures ∙ strict_from_lem (strict_least args.unlimited) args.lower.now args.closed-lower.now turn.loop.i),
+      stored turn.loop-i.invariant.2 _ (omega (arith, turn.requires.0))
+          (c.strict_least.ensures ∙ strict_from_lem (strict_least args.unlimited) args.lower.now args.closed-lower.now turn.loop-i.i),
     )
 
 returns : tie.Need-returns invariant-loop decreases-loop
 returns c =
     let end = c.before in
-    let s = end.before.before.before.before in
-    strict_all _ _ _ _ _ end.loop.i (omega arith) (omega (arith, end.loop.invariant.1, s.requires.0)) end.loop.invariant.2
+    strict_all _ _ _ _ _ end.loop-i.i (omega arith) (omega (arith, end.loop-i.invariant.1, end.requires.0)) end.loop-i.invariant.2
 
-pub turn-leasts-spec : {M : Type 1} → statement M
-turn-leasts-spec =
+pub turn_leasts_spec : {M : Type 1} → statement M
+turn_leasts_spec =
     tie.close
     (tie.spec
     invariant-loop

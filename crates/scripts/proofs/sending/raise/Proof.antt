@@ -8,34 +8,32 @@ use Rattle.scripts.proofs.Raising.{raised_last, raised_all}
 use Rattle.scripts.proofs.sending.raise.Statement.{statement}
 use Rattle.scripts.proofs.sending.raise.Tie as tie
 
-abbrev invariant-loop : tie.invariant-loop
+abbrev invariant-loop : tie.invariant-loop-i
 invariant-loop figures raised₀ h i₀ raised i = (i ≤ h) × (length raised ≡ length raised₀) × Filled (raised_last figures) raised₀ raised i
 
-abbrev decreases-loop : tie.decreases-loop
+abbrev decreases-loop : tie.decreases-loop-i
 decreases-loop figures raised₀ h i₀ raised i = h - i
 
-add-raised : tie.Need-overflow-add-raised invariant-loop decreases-loop
+add-raised : tie.Need-overflow_add-raised invariant-loop decreases-loop
 add-raised c =
-    let start = c.before.before.before in
-    omega (arith, start.requires.1 (length start.args.figures.now - 1 - c.before.before.loop.i) (omega arith))
+    omega (arith, c.requires.1 (length c.args.figures.now - 1 - c.loop-i.i) (omega arith))
 
-loop-again : tie.Need-loop-preserved invariant-loop decreases-loop
+loop-again : tie.Need-loop-i-preserved invariant-loop decreases-loop
 loop-again c =
-    let turn = c.before.before in
-    let figures = turn.before.args.figures.now in (
+    let figures = c.args.figures.now in (
       omega arith,
       search rules,
-      stored turn.loop.invariant.2 _ (omega arith) (ap (λ x. x + sum_limit) (from_last_lem figures turn.loop.i)),
+      stored c.loop-i.invariant.2 _ (omega arith) (ap (λ x. x + sum_limit) (from_last_lem figures c.loop-i.i)),
     )
 
 returns : tie.Need-returns invariant-loop decreases-loop
 returns c =
-    let args = c.before.before.args in
-    raised_all args.figures.now args.raised.now _ c.before.loop.i c.before.before.requires.0 (omega arith)
-    c.before.loop.invariant.2
+    let args = c.args in
+    raised_all args.figures.now args.raised.now _ c.loop-i.i c.requires.0 (omega arith)
+    c.loop-i.invariant.2
 
-pub raise-spec : {M : Type 1} → statement M
-raise-spec =
+pub raise_spec : {M : Type 1} → statement M
+raise_spec =
     tie.close
     (tie.spec
     invariant-loop

@@ -8,21 +8,19 @@ use Rattle.scripts.proofs.sending.raise_ceilings.Tie as tie
 
 raise-requires : tie.Need-raise-requires
 raise-requires c κs =
-    let start = c.before.before.before.before in
-    let us = start.args.upper.now in
-    (search rules, subst (λ b. LowFigures (length us) (ceilings_from b us)) c.before.if1.false start.requires.1)
+    let us = c.args.upper.now in
+    (search rules, subst (λ b. LowFigures (length us) (ceilings_from b us)) c.if-unlimited.false c.requires.1)
 
-returns : tie.Need-returns
+returns : tie.Need-returns-then-unlimited
 returns c =
-    let start = c.before.before.before.before.before.before.before in
-    rw c.before.before.before.before.if1.true
-    (raised_any _ start.args.upper.now _ _ _ start.requires.0.1 c.before.before.raise-none.ensures)
+    rw c.if-unlimited.true
+    (raised_any _ c.args.upper.now _ _ _ c.requires.0.1 c.raise_none.ensures)
 
-returns-2 : tie.Need-returns-2
-returns-2 c = rw c.before.before.before.before.if1.false c.before.before.raise.ensures
+returns-2 : tie.Need-returns-else-unlimited
+returns-2 c = rw c.if-unlimited.false c.raise.ensures
 
-pub raise-ceilings-spec : {M : Type 1} → statement M
-raise-ceilings-spec =
+pub raise_ceilings_spec : {M : Type 1} → statement M
+raise_ceilings_spec =
     tie.close
     (tie.spec
     (λ c κs. search rules)

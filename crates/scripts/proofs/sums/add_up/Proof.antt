@@ -8,41 +8,40 @@ use Rattle.scripts.proofs.Adding.{kept_none, sum_more, kept_more}
 use Rattle.scripts.proofs.sums.add_up.Statement.{statement}
 use Rattle.scripts.proofs.sums.add_up.Tie as tie
 
-abbrev invariant-loop : tie.invariant-loop
+abbrev invariant-loop : tie.invariant-loop-d
 invariant-loop ticks sums₀ h held sum₀ d₀ sums sum d =
     (d ≤ held) × (length sums ≡ length sums₀) × (sum ≤ sum_limit) × (sum ≡ last ticks d) × KeptSums ticks d sums
 
-abbrev decreases-loop : tie.decreases-loop
+abbrev decreases-loop : tie.decreases-loop-d
 decreases-loop ticks sums₀ h held sum₀ d₀ sums sum d = held - d
 
-loop-holds : tie.Need-loop-init invariant-loop decreases-loop
+loop-holds : tie.Need-loop-d-init invariant-loop decreases-loop
 loop-holds c = (omega arith, refl, omega arith, omega (arith, last_none c.args.ticks.now), kept_none _ _ c.requires.1)
 
-returns : tie.Need-returns invariant-loop decreases-loop
+returns : tie.Need-returns-then-sum-tick invariant-loop decreases-loop
 returns c = (search rules, λ e. let z : ◌≡◌ {A = ℕ} 0 1 = cc in absurd (omega arith))
 
-loop-again : tie.Need-loop-preserved invariant-loop decreases-loop
+loop-again : tie.Need-loop-d-preserved invariant-loop decreases-loop
 loop-again c =
-    let turn = c.before.before.before in
-    let ticks = turn.before.args.ticks.now in
-    let inv = turn.loop.invariant in
-    let more = sum_more ticks turn.loop.d turn.loop.sum (omega arith) inv.3 in (
+    let ticks = c.args.ticks.now in
+    let inv = c.loop-d.invariant in
+    let more = sum_more ticks c.loop-d.d c.loop-d.sum (omega arith) inv.3 in (
       omega arith,
       search rules,
       omega arith,
       more,
-      kept_more ticks _ turn.loop.d _ _ (omega arith) (omega arith) inv.4 more (omega arith),
+      kept_more ticks _ c.loop-d.d _ _ (omega arith) (omega arith) inv.4 more (omega arith),
     )
 
-returns-2 : tie.Need-returns-2 invariant-loop decreases-loop
+returns-2 : tie.Need-returns invariant-loop decreases-loop
 returns-2 c =
-    let end = c.before.loop in
-    let ticks = c.before.before.args.ticks.now in
+    let end = c.loop-d in
+    let ticks = c.args.ticks.now in
     let all : end.d ≡ length ticks = omega arith in
     (search rules, λ e. subst (λ k. KeptSums ticks k end.sums) all end.invariant.4)
 
-pub add-up-spec : {M : Type 1} → statement M
-add-up-spec =
+pub add_up_spec : {M : Type 1} → statement M
+add_up_spec =
     tie.close
     (tie.spec
     invariant-loop

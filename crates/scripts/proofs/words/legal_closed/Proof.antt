@@ -4,38 +4,37 @@ use Rattle.scripts.proofs.Asked.{none_asked, closed_told}
 use borrow.Author.Rules.{rules}
 use Rattle.scripts.proofs.words.legal_closed.Statement.{statement}
 use Rattle.scripts.proofs.words.legal_closed.Tie as tie
-use Rattle.bounds.proofs.within_limit.Reads as within-limit-reads
+use Rattle.bounds.proofs.within_limit.Reads as within_limit_reads
 
-returns : tie.Need-returns
+returns : tie.Need-returns-then-words-gt0
 returns c =
-    none_asked c.before.before.before.args.words.now c.before.before.before.requires.0 c.before.before.before.requires.1
-    (lt-ltb 0 _ c.if1.true)
+    none_asked c.args.words.now c.requires.0 c.requires.1
+    (lt-ltb 0 _ c.if-words-gt0.true)
 
-cast-horizon : tie.Need-overflow-cast-horizon
-cast-horizon c = omega (arith, c.shared-slice-known3.given 0)
+cast-horizon : tie.Need-overflow_cast-horizon
+cast-horizon c = omega (arith, c.shared_slice_known-3-1.given 0)
 
-add-within-limit : tie.Need-overflow-add-within-limit
-add-within-limit c = omega (arith, c.before.before.before.before.requires.1)
+add-within-limit : tie.Need-overflow_add-horizon
+add-within-limit c = omega (arith, c.requires.1)
 
-part-within-limit-end : tie.Need-slice-bounds-within-limit-end
-part-within-limit-end c = omega (arith, c.before.before.before.before.requires.0, c.before.before.before.before.requires.1)
+part-within-limit-end : tie.Need-slice_bounds-within_limit-end
+part-within-limit-end c = omega (arith, c.requires.0, c.requires.1)
 
-add-within-limit-2 : tie.Need-overflow-add-within-limit-2
-add-within-limit-2 c = omega (arith, c.before.before.before.before.before.before.requires.1)
+add-within-limit-2 : tie.Need-overflow_add-horizon-2
+add-within-limit-2 c = omega (arith, c.requires.1)
 
-part-within-limit-end-2 : tie.Need-slice-bounds-within-limit-end-2
+part-within-limit-end-2 : tie.Need-slice_bounds-within_limit-end-2
 part-within-limit-end-2 c =
-    omega (arith, c.before.before.before.before.before.before.requires.0, c.before.before.before.before.before.before.requires.1)
+    omega (arith, c.requires.0, c.requires.1)
 
-returns-2 : tie.Need-returns-2
+returns-2 : tie.Need-returns
 returns-2 c =
-    let s = c.before.before.before.before.before.before.before.before in
-    closed_told s.args.words.now s.requires.0 s.requires.1 c.before.before.within-limit.result c.within-limit2.result
-    (le-ltb 0 _ c.before.before.before.before.before.if1.false) c.before.before.within-limit.ensures
-    c.within-limit2.ensures
+    closed_told c.args.words.now c.requires.0 c.requires.1 c.within_limit.result c.within_limit-2.result
+    (le-ltb 0 _ c.if-words-gt0.false) c.within_limit.ensures
+    c.within_limit-2.ensures
 
-pub legal-closed-spec : {M : Type 1} → statement M
-legal-closed-spec =
+pub legal_closed_spec : {M : Type 1} → statement M
+legal_closed_spec =
     tie.close
     (tie.spec
     (λ c. search rules)

@@ -5,17 +5,17 @@ use Rattle.scripts.specs.Words.{mark_from, word}
 use borrow.Author.Rules.{rules}
 use Rattle.scripts.proofs.words.read_monitor.Statement.{statement}
 use Rattle.scripts.proofs.words.read_monitor.Tie as tie
-use Rattle.scripts.proofs.words.array_of.Reads as array-of-reads
-use Rattle.scripts.proofs.words.read_history.Reads as read-history-reads
+use Rattle.scripts.proofs.words.array_of.Reads as array_of_reads
+use Rattle.scripts.proofs.words.read_history.Reads as read_history_reads
 
 returns : tie.Need-returns
 returns c =
-    let ws = c.before.before.before.before.before.before.before.args.words.now in
-    λ i. monitor_of (c.before.before.before.before.before.read_history.ensures i) (c.before.before.before.array_of.ensures i)
-    (c.before.array-of2.ensures i) (mark_from (word 1_283 ws))
+    let ws = c.args.words.now in
+    λ i. monitor_of (c.read_history-history.ensures i) (c.array_of-closed_upper.ensures i)
+    (c.array_of-closed_lower.ensures i) (mark_from (word 1_283 ws))
 
-pub read-monitor-spec : {M : Type 1} → statement M
-read-monitor-spec =
+pub read_monitor_spec : {M : Type 1} → statement M
+read_monitor_spec =
     tie.close
     (tie.spec
     (λ c κs. search rules)

@@ -4,17 +4,16 @@ use Rattle.scripts.proofs.Opened.{figures_written}
 use borrow.Author.Rules.{rules}
 use Rattle.scripts.proofs.words.write_figures.Statement.{statement}
 use Rattle.scripts.proofs.words.write_figures.Tie as tie
-use Rattle.lists.proofs.copy.Reads as copy-reads
-use Rattle.scripts.proofs.words.fill.Reads as fill-reads
+use Rattle.lists.proofs.copy.Reads as copy_reads
+use Rattle.scripts.proofs.words.fill.Reads as fill_reads
 
 returns : tie.Need-returns
 returns c =
-    let s = c.before.before.before.before.before.before.before.before.before.before in
-    figures_written s.args.figures.now s.args.places.now _ _ s.requires.0 s.requires.1
-    c.before.before.before.before.before.before.copy.ensures.entries c.before.before.fill.ensures
+    figures_written c.args.figures.now c.args.places.now _ _ c.requires.0 c.requires.1
+    c.copy.ensures.entries c.fill.ensures
 
-pub write-figures-spec : {M : Type 1} → statement M
-write-figures-spec =
+pub write_figures_spec : {M : Type 1} → statement M
+write_figures_spec =
     tie.close
     (tie.spec
     (λ c κs. search rules)

@@ -10,7 +10,7 @@ use Rattle.scripts.proofs.Worded.{held_put, held-length}
 use borrow.Author.Rules.{rules}
 use Rattle.scripts.proofs.words.write_held.Statement.{statement}
 use Rattle.scripts.proofs.words.write_held.Tie as tie
-use Rattle.lists.proofs.copy.Reads as copy-reads
+use Rattle.lists.proofs.copy.Reads as copy_reads
 
 long : (s : tie.Start) → length s.args.history.ticks ≡ 256
 long s = search rules
@@ -28,27 +28,27 @@ written c =
     let h = s.args.history in
     let is = entries-take h.held h.ticks (room s) in
     let n = held_seen h in
-    ap (λ k. put_mid 515 256 (set s.args.words.now 514 k) c.before.before.copy.new.1.0) (sym n)
+    ap (λ k. put_mid 515 256 (set s.args.words.now 514 k) c.copy.new.1.0) (sym n)
     ∙ held_put s.args.words.now (view_of h).held 256 (omega (arith, s.requires.0)) (few s) _
-    (c.before.before.copy.ensures.entries ∙ (λ i. over (sym is i) (mid_of 515 256 (set s.args.words.now 514 (sym n i)))))
+    (c.copy.ensures.entries ∙ (λ i. over (sym is i) (mid_of 515 256 (set s.args.words.now 514 (sym n i)))))
 
-array-share-prefix-ticks : tie.Need-array-share-prefix-ticks
+array-share-prefix-ticks : tie.Need-slice_bounds-ticks-end
 array-share-prefix-ticks c = room c.before.before
 
-slice-aggregate-copy : tie.Need-slice-aggregate-copy
+slice-aggregate-copy : tie.Need-slice_bounds-copy-end
 slice-aggregate-copy c = sym (length-take-le _ _ (room c.before.before.before))
 
-same_length : tie.Need-same-length
+same_length : tie.Need-shape_of-words
 same_length c =
-    ap length (written c) ∙ held-length c.before.before.before.before.before.before.before.args.words.now
-    (view_of c.before.before.before.before.before.before.before.args.history).held
-    c.before.before.before.before.before.before.before.requires.0 (few c.before.before.before.before.before.before.before)
+    ap length (written c) ∙ held-length c.args.words.now
+    (view_of c.args.history).held
+    c.requires.0 (few c.before.before.before.before.before.before.before)
 
 returns : tie.Need-returns
 returns c = written c
 
-pub write-held-spec : {M : Type 1} → statement M
-write-held-spec =
+pub write_held_spec : {M : Type 1} → statement M
+write_held_spec =
     tie.close
     (tie.spec
     (λ c. search rules)
