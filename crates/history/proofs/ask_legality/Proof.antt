@@ -22,14 +22,14 @@ sizes : (e : tie.After-lower_figures-1) (xs : List ℕ) → Sizes (with (start e
 sizes e xs = record { within = omega arith; fewer = omega arith }
 
 uppers : (e : tie.After-lower_figures-1) → (start e).args.horizon ≤ length (start e).args.upper.now
-uppers e = let l : length (start e).args.upper.now ≡ max_horizon = e.upper_figures-1.given.0 in omega arith
+uppers e = let l : length (start e).args.upper.now ≡ max_horizon = e.upper_figures-1.given in omega arith
 
 lowers : (e : tie.After-lower_figures-1) → (start e).args.horizon ≤ length (start e).args.lower.now
-lowers e = let l : length (start e).args.lower.now ≡ max_horizon = e.lower_figures-1.given.0 in omega arith
+lowers e = let l : length (start e).args.lower.now ≡ max_horizon = e.lower_figures-1.given in omega arith
 
 -- From where the figures have been asked about.
 abbrev sized : tie.After-all_within → tie.After-lower_figures-1
-sized k = k.before.before.before
+sized k = k.before
 
 returns : tie.Need-returns-then-horizon-gt-MAX_HORIZON
 returns c = record { answer = λ xs. legality_no _ (λ l. omega (arith, (legal_sizes (with c.before xs) l).within, c.if-horizon-gt-MAX_HORIZON.true)) }
@@ -65,8 +65,8 @@ ask_legality_spec =
     (tie.spec
     returns
     returns-2
-    (λ c. sym (length-take-le _ _ (uppers c.before)))
-    (λ c. sym (length-take-le _ _ (lowers c.before.before)))
+    (λ c. sym (length-take-le _ _ (uppers c)))
+    (λ c. sym (length-take-le _ _ (lowers c)))
     (λ c κs. search rules)
     returns-3
     returns-4)

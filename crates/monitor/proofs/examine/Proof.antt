@@ -15,15 +15,14 @@ history s = let a = s.args in history_of a.horizon a.upper.now a.lower.now a.unl
 
 returns : tie.Need-returns-in_default
 returns c =
-    let t = c.before in
-    let s = t.before.before.before in
-    let asked = t.ask_legality in
-    examined_refused s.args.earlier _ (history s) _ c.unjudged.ensures
-    (illegal_from (view_of (history s)) asked.result (asked.ensures.answer s.args.ticks.now) t.in_default.is)
+    let asked = c.ask_legality in
+    let h = history c.before.before.before in
+    examined_refused c.args.earlier _ h _ c.unjudged.ensures
+    (illegal_from (view_of h) asked.result (asked.ensures.answer c.args.ticks.now) c.in_default.is)
 
 -- Where it is answered yes.
 abbrev start : tie.In-Legal → tie.Start
-start t = t.before.before.before
+start t = t.before.before
 
 legal : (t : tie.In-Legal) → Legal (view_of (history (start t)))
 legal t =
@@ -40,20 +39,18 @@ told e = e.before.before.before
 arrays : (e : tie.After-counts-1) → Arrays (history (start (told e)))
 arrays e =
     record {
-      uppers = e.upper_figures-1.given.0;
-      lowers = e.lower_figures-1.given.0;
-      held = e.counts-1.given.0;
+      uppers = e.upper_figures-1.given;
+      lowers = e.lower_figures-1.given;
+      held = e.counts-1.given;
     }
 
 rule-requires : tie.Need-rule-requires
 rule-requires c κs =
-    let e = c.before.before.before in
-    let s = start (told e) in
-    (slices _ (arrays e) (sizes (told e)), fits_sliced s.args.earlier (history s) (arrays e) (sizes (told e)) _ s.pre)
+    (slices _ (arrays c) (sizes (told c)), fits_sliced c.args.earlier (history (start (told c))) (arrays c) (sizes (told c)) _ c.requires)
 
 returns-2 : tie.Need-returns
 returns-2 c =
-    let e = c.before.before.before.before in
+    let e = c.before in
     let s = start (told e) in
     examined_ruled s.args.earlier (history s) (arrays e) (sizes (told e)) s.args.count c.rule.result (legal (told e))
     c.rule.ensures
@@ -67,8 +64,8 @@ examine_spec =
     (λ c. search rules)
     (λ c κs. search rules)
     returns
-    (λ c. let e = c.before in upper-length _ (arrays e) (sizes (told e)))
-    (λ c. let e = c.before.before in lower-length _ (arrays e) (sizes (told e)))
-    (λ c. let e = c.before.before.before in ticks_length _ (arrays e) (sizes (told e)))
+    (λ c. upper-length _ (arrays c) (sizes (told c)))
+    (λ c. lower-length _ (arrays c) (sizes (told c)))
+    (λ c. ticks_length _ (arrays c) (sizes (told c)))
     rule-requires
     returns-2)

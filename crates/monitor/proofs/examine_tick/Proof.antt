@@ -40,8 +40,8 @@ examine-requires-2 : tie.Need-examine-requires
 examine-requires-2 c κs =
     let g = c.before in
     let a = (start g).args in
-    fits_limited a.horizon a.upper.now a.lower.now a.unlimited a.held a.ticks.now a.closed-upper.now
-    a.closed-lower.now a.failed a.count g.examine-given.result c.if-unlimited.false (given g)
+    fits_limited a.horizon a.upper.now a.lower.now a.unlimited a.held a.ticks.now a.closed_upper.now
+    a.closed_lower.now a.failed a.count g.examine-given.result c.if-unlimited.false (given g)
 
 returns-2 : tie.Need-returns
 returns-2 c =

@@ -14,7 +14,7 @@ ask-requires c κs =
 
 returns : tie.Need-returns
 returns c =
-    let start = c.before.before.«open» in
+    let start = c.open-opened in
     let asked = c.ask-opening in
     let args = c.args in
     let p : AnyPair = with_mark args.upper.now args.lower.now args.unlimited in

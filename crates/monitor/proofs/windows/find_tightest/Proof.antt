@@ -29,7 +29,7 @@ loop-holds c =
       subst
           (λ z. TightestTo (with_mark a.upper.now a.lower.now a.unlimited) (then a.ticks.now a.count) 1
           (record { value = z; window = 1 }))
-          (sym (result_read first.result _ (record { sfits = first.type-inv }) first.ensures))
+          (sym (result_read first.result _ (record { sfits = first.type_inv }) first.ensures))
           (tightest_first a.upper.now a.lower.now a.unlimited a.ticks.now a.count c.requires),
     )
 
@@ -128,7 +128,7 @@ find_tightest_spec =
     (λ c. search rules)
     (λ c. search rules)
     (λ c. omega (arith, one-small c))
-    (λ c. let s = start (head c) in omega (arith, one-small c, (head c).loop-d.invariant.0, s.pre.within, s.pre.fewer))
+    (λ c. let s = start (head c) in omega (arith, one-small c, (head c).loop-d.invariant.0, s.requires.within, s.requires.fewer))
     (λ c. search rules)
     (λ c. search rules)
     (λ c. search rules)

@@ -41,7 +41,7 @@ inside : (e : tie.Else-margin_between-lt0 invariant-loop decreases-loop) → let
     turn.loop-sum.sum
 inside e =
     let j = e.margin_between in
-    not_less_told j.result _ (record { sfits = j.type-inv }) j.ensures (pos 0) e.if-margin_between-lt0.false
+    not_less_told j.result _ (record { sfits = j.type_inv }) j.ensures (pos 0) e.if-margin_between-lt0.false
 
 loop-again : tie.Need-loop-sum-preserved invariant-loop decreases-loop
 loop-again c =
@@ -61,7 +61,7 @@ outside : (c : tie.After-shared_slice_known-then-margin_between-lt0-1 invariant-
     <ℤ pos 0
 outside c =
     let j = c.margin_between in
-    less_told j.result _ (record { sfits = j.type-inv }) j.ensures (pos 0) c.if-margin_between-lt0.true
+    less_told j.result _ (record { sfits = j.type_inv }) j.ensures (pos 0) c.if-margin_between-lt0.true
 
 returns : tie.Need-returns-then-unlimited-upper invariant-loop decreases-loop
 returns c =

@@ -90,12 +90,12 @@ abbrev second : tie.After-inside-in-loop-d-2 invariant-loop decreases-loop → t
 second k = k.before.before.before.before.before.before
 
 abbrev One : tie.After-inside-in-loop-d-2 invariant-loop decreases-loop → Type 0
-One k = let t = head (second k).before in Fits (start t) (t.loop.sum + tick t t.loop.d) (t.loop.d + 1)
+One k = let t = head (second k).before in Fits (start t) (t.loop-d.sum + tick t t.loop-d.d) (t.loop-d.d + 1)
 
 abbrev Other : tie.After-inside-in-loop-d-2 invariant-loop decreases-loop → Type 0
 Other k =
     let t = head (second k).before in
-    Fits (start t) (t.loop.sum + tick t t.loop.d + tick t (t.loop.d + 1)) (t.loop.d + 1 + 1)
+    Fits (start t) (t.loop-d.sum + tick t t.loop-d.d + tick t (t.loop-d.d + 1)) (t.loop-d.d + 1 + 1)
 
 told : (k : tie.After-inside-in-loop-d-2 invariant-loop decreases-loop)
     → Tells (k.inside-in-loop-d.result && k.inside-in-loop-d-2.result) (One k × Other k)
@@ -164,7 +164,7 @@ keeps_spec =
     (λ c. search rules)
     (λ c. search rules)
     (λ c. search rules)
-    (λ c. let s = start (head c) in omega (arith, (one-sum c).summed, s.pre.1 ((head c).loop-d.d + 1) (one-sum c).held))
+    (λ c. let s = start (head c) in omega (arith, (one-sum c).summed, s.requires.1 ((head c).loop-d.d + 1) (one-sum c).held))
     (λ c. search rules)
     (λ c. search rules)
     (λ c. search rules)

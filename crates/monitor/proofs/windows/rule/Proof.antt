@@ -25,34 +25,29 @@ returns-2 c =
     c.measure.ensures
 
 -- Where it has a margin.
-abbrev start : tie.Else-margin-eq0 → tie.Start
-start n = n.before.before.before.before.before.before.before.before
-
-measured : (n : tie.Else-margin-eq0) → ¬ ((start n).args.earlier.margin.window ≡ 0)
+measured : (n : tie.Else-margin-eq0) → ¬ (n.args.earlier.margin.window ≡ 0)
 measured n = n.if-margin-eq0.false
 
 keeps-requires : tie.Need-keeps-requires
 keeps-requires c κs =
-    ((start c).requires.0, (start c).requires.1 (passed c.before.before.before) (omega (arith, measured c)))
+    (c.requires.0, c.requires.1 (passed c.before.before.before) (omega (arith, measured c)))
 
-abbrev All : tie.Start → Type 0
-All s = let a = s.args in Keeps (pair_of a.upper.now a.lower.now) (then a.ticks.now a.count)
+abbrev All : tie.After-keeps → Type 0
+All k = let a = k.args in Keeps (pair_of a.upper.now a.lower.now) (then a.ticks.now a.count)
 
 returns-3 : tie.Need-returns-then-keeps
 returns-3 c =
     let n = c.before.before in
-    let s = start n in
     let found = c.keeps in
-    as_next s.args.earlier _ _ _ _ _ _ (passed n.before.before.before) (measured n)
-    (inl (either_true (All s) (¬ All s) found.result c.if-keeps.true found.ensures, refl))
+    as_next c.args.earlier _ _ _ _ _ _ (passed n.before.before.before) (measured n)
+    (inl (either_true (All c.before) (¬ All c.before) found.result c.if-keeps.true found.ensures, refl))
 
 returns-4 : tie.Need-returns
 returns-4 c =
     let n = c.before.before in
-    let s = start n in
     let found = c.keeps in
-    as_next s.args.earlier _ _ _ _ _ _ (passed n.before.before.before) (measured n)
-    (inr (either_false (All s) (¬ All s) found.result c.if-keeps.false found.ensures, refl))
+    as_next c.args.earlier _ _ _ _ _ _ (passed n.before.before.before) (measured n)
+    (inr (either_false (All c.before) (¬ All c.before) found.result c.if-keeps.false found.ensures, refl))
 
 pub rule_spec : {M : Type 1} → statement M
 rule_spec = tie.close (tie.spec returns (λ c κs. search rules) returns-2 keeps-requires returns-3 returns-4)

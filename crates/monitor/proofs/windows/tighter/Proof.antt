@@ -17,7 +17,7 @@ abbrev other : tie.Start → ℤ
 other s = let a = s.args in margin_with a.unlimited a.ceiling a.least a.sum
 
 read : (k : tie.After-margin_between-value) → to_z w64 (of_z w64 k.margin_between-value.result) ≡ other k.before
-read k = let j = k.margin_between-value in result_read j.result _ (record { sfits = j.type-inv }) j.ensures
+read k = let j = k.margin_between-value in result_read j.result _ (record { sfits = j.type_inv }) j.ensures
 
 -- What the test tells.
 tested : (k : tie.After-margin_between-value) (t : Bool) → let best = k.args.best in
