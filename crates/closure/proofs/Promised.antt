@@ -1,9 +1,9 @@
 -- What a closure that is given is worth: figures met, extendable streams, equal closures, closed again. Assumes nothing.
-use Rattle.laws.proofs.Base.{ℕ, ◌*◌, ◌≤◌, ◌≡◌, refl, sym, ap, ◌∙◌, subst, subst⁻¹, cond, ◌↔◌, arith, length}
+use Rattle.laws.proofs.Base.{ℕ, ◌≤◌, ◌≡◌, refl, sym, ap, ◌∙◌, subst, subst⁻¹, cond, ◌↔◌, arith}
 use mathlib.Core.Logic.Iff
 use Rattle.curves.specs.Streams.{Stream, sum}
 use Rattle.curves.specs.Streams.{count_limit}
-use Rattle.curves.specs.Pairs.{Pair, horizon, upper_at, lower_at, Equal}
+use Rattle.curves.specs.Pairs.{Pair, horizon, upper_at, lower_at}
 use Rattle.curves.specs.Unlimited.{AnyPair, limited, unlimited, curves_of, alike, mark_of, EqualPairs, AllWithin, sums_after}
 use Rattle.curves.specs.Theorems.{leasts_only}
 use Rattle.curves.specs.Conformance.{Inside, Conforms, Conforms∞, Extendable}
@@ -22,28 +22,11 @@ use Rattle.curves.proofs.Closure.{
   causal_takes_no_round,
   causal_iff_own_closure,
 }
-use Rattle.bounds.specs.Bounds.{figure_limit, max_horizon}
+use Rattle.bounds.specs.Bounds.{figure_limit}
 use Rattle.closure.specs.Closing.{closing_question4, given_closing, closing}
-use Rattle.closure.specs.Theorems.{
-  GivesClosure,
-  closure_of,
-  FollowsUpper,
-  FollowsLower,
-  FiguresMet,
-  ConformsIffExtendable,
-  EqualIffSameStreams,
-  GivenIsCausal,
-  ClosurePasses,
-  MarkGiven,
-  Closable,
-  ClosedAgain,
-  CausalIffGivenBack,
-  PassesFour,
-  UnlimitedCloses,
-  ClosesToLargest,
-}
+use Rattle.closure.specs.Theorems.{GivesClosure, closure_of, FollowsUpper, FollowsLower, FiguresMet, ConformsIffExtendable, EqualIffSameStreams, GivenIsCausal, ClosurePasses, MarkGiven, Closable, ClosedAgain, CausalIffGivenBack, UnlimitedCloses, ClosesToLargest}
 use Rattle.curves.specs.Rounds.{whole, Arrives}
-use Rattle.curves.proofs.Highest.{length-highest, highest_at}
+use Rattle.curves.proofs.Highest.{length-highest}
 use Rattle.curves.proofs.Parts.{sums_arrive_within_logarithm, arrives_at_largest, leasts_upper}
 use Rattle.closure.proofs.Said.{closed_is, given_number, gives_passes}
 use Rattle.closure.proofs.Given.{arrived, positive_horizon, given_horizon, given_even, answer_mark, given_mark, within_closed}

@@ -4,7 +4,7 @@ use Rattle.laws.proofs.Base.{ℕ, ◌+◌, ◌-◌, ◌≤◌, ◌≡◌, sym, a
 use Rattle.laws.specs.Ranges.{table}
 use Rattle.laws.proofs.Table.{length-table, table_same}
 use Rattle.curves.specs.Pairs.{figure, pair_of}
-use Rattle.curves.specs.Rounds.{whole, cut_off, figures_of, new_upper, new_lower, round}
+use Rattle.curves.specs.Rounds.{whole, cut_off, figures_of, new_upper, new_lower}
 use Rattle.curves.proofs.Figures.{figure_table}
 use Rattle.bounds.specs.Bounds.{figure_limit, Bounded}
 use Rattle.closure.specs.Widths.{sum_limit, HalfWidth}

@@ -6,13 +6,13 @@ use Rattle.laws.specs.Ranges.{table}
 use Rattle.laws.specs.Tests.{Tells}
 use Rattle.laws.proofs.Tests.{tells_same}
 use Rattle.laws.proofs.Table.{length-table}
-use Rattle.curves.specs.Pairs.{Pair, pair_of, figure, FiguresWithin}
+use Rattle.curves.specs.Pairs.{Pair, pair_of, figure}
 use Rattle.curves.specs.Unlimited.{highest, SuperAdditive}
 use Rattle.curves.proofs.Figures.{figure_table}
 use Rattle.curves.proofs.Agreement.{cut_off_arrives, cut_off_crosses}
 use Rattle.curves.proofs.Parts.{leasts_arrive}
 use Rattle.curves.proofs.Standing.{standing_never_crosses}
-use Rattle.bounds.specs.Bounds.{max_horizon, figure_limit}
+use Rattle.bounds.specs.Bounds.{max_horizon}
 use Rattle.closure.specs.declared.Closing.{Closing}
 use Rattle.closure.specs.declared.Closing.TheVariants.{Closed, UpperLength, LowerLength, ResultLength, FigureLimit, NoClosure}
 use Rattle.closure.specs.Closing.{least_limit}

@@ -5,7 +5,7 @@ use Rattle.laws.proofs.Whole.{le_parts, parts_le, minus_above, above_minus}
 use Rattle.laws.proofs.Table.{length-table}
 use Rattle.curves.specs.Pairs.{Curves, Pair, horizon, figure, upper_at, lower_at, FiguresWithin}
 use Rattle.curves.specs.Unlimited.{sums_after}
-use Rattle.curves.specs.Rounds.{whole, cut_off, figures_of, after, round, Crossed}
+use Rattle.curves.specs.Rounds.{whole, cut_off, figures_of, after, Crossed}
 use Rattle.curves.proofs.Figures.{given_horizon, given_upper, given_lower, round_horizon}
 use Rattle.curves.proofs.Tightened.{below, upper_falls}
 use Rattle.curves.proofs.Agreement.{agree, tied}

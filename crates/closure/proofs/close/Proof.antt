@@ -96,8 +96,8 @@ returns-7 c =
     let ended = c.before.before in
     let e = ended.before.before.before in
     let s = start (asked e) in
-    let lowers = ended.to_end.auto.1.0 ∙ sym (part e _ (room (asked e)).1) in
-    leasts_ended_with (us s) (ls s) (found s) _ ended.if-unlimited.true (passes e) ended.to_end.new.1.0 lowers
+    let lowers = ended.to_end.auto.closed_lower ∙ sym (part e _ (room (asked e)).1) in
+    leasts_ended_with (us s) (ls s) (found s) _ ended.if-unlimited.true (passes e) ended.to_end.new.closed_lower lowers
     ended.to_end.result ended.to_end.ensures
 
 returns-8 : tie.Need-returns
@@ -106,10 +106,10 @@ returns-8 c =
     let e = ended.before.before.before.before in
     let s = start (asked e) in
     let rest = room (asked e) in
-    let uppers = ended.to_end-2.auto.1.1.0 ∙ sym (part e _ rest.0) in
-    let lowers = ended.to_end-2.auto.1.1.1.0 ∙ sym (part e _ rest.1) in
-    ended_with (us s) (ls s) (found s) _ ended.if-unlimited.false (passes e) ended.to_end-2.new.1.1.0
-    ended.to_end-2.new.1.1.1.0 uppers lowers ended.to_end-2.result ended.to_end-2.ensures
+    let uppers = ended.to_end-2.auto.closed_upper ∙ sym (part e _ rest.0) in
+    let lowers = ended.to_end-2.auto.closed_lower ∙ sym (part e _ rest.1) in
+    ended_with (us s) (ls s) (found s) _ ended.if-unlimited.false (passes e) ended.to_end-2.new.closed_upper
+    ended.to_end-2.new.closed_lower uppers lowers ended.to_end-2.result ended.to_end-2.ensures
 
 pub close_spec : {M : Type 1} → statement M
 close_spec =

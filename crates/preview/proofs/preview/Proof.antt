@@ -7,9 +7,6 @@ use Rattle.preview.specs.Preview.{preview_of}
 use Rattle.preview.proofs.Fed.{preview_bad}
 use Rattle.preview.proofs.preview.Statement.{statement}
 use Rattle.preview.proofs.preview.Tie as tie
-use Rattle.lists.proofs.copy.Reads as copy_reads
-use Rattle.preview.proofs.no_words.Reads as no_words_reads
-use Rattle.preview.proofs.try_counts.Reads as try_counts_reads
 
 copied : (ws zeros left : List ℕ) (n : ℕ) → zeros ≡ replicate n 0 → length ws ≡ n → left ≡ over ws zeros → left ≡ ws
 copied ws zeros left n z e c = c ∙ over_whole ws zeros (ap length z ∙ length-replicate n _ ∙ sym e)

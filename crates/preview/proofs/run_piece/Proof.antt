@@ -3,7 +3,6 @@ use Rattle.laws.proofs.Base.{rules}
 use borrow.Author.Rules.{rules}
 use Rattle.preview.proofs.run_piece.Statement.{statement}
 use Rattle.preview.proofs.run_piece.Tie as tie
-use Rattle.scripts.proofs.judge.Reads as judge_reads
 
 returns : tie.Need-returns
 returns c = (_, _, c.judge.ensures)

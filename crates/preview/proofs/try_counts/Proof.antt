@@ -11,9 +11,6 @@ use Rattle.preview.proofs.Ran.{Ran, ran}
 use Rattle.preview.proofs.Turn.{Begun, not_begun, refused_is, ran_is, all_pass, Turned, turned}
 use Rattle.preview.proofs.try_counts.Statement.{statement}
 use Rattle.preview.proofs.try_counts.Tie as tie
-use Rattle.preview.proofs.leading_passes.Reads as leading_passes_reads
-use Rattle.preview.proofs.no_verdicts.Reads as no_verdicts_reads
-use Rattle.preview.proofs.run_piece.Reads as run_piece_reads
 
 abbrev invariant-loop : tie.invariant-loop-verdicts
 invariant-loop words₀ counts verdict₀ verdicts₀ i₀ words verdict verdicts i =
@@ -23,14 +20,13 @@ abbrev decreases-loop : tie.decreases-loop-verdicts
 decreases-loop words₀ counts verdict₀ verdicts₀ i₀ words verdict verdicts i = length counts - i
 
 loop-holds : tie.Need-loop-verdicts-init invariant-loop decreases-loop
-loop-holds c =
-    (
-      omega arith,
-      refl,
-      ap length c.no_verdicts-verdicts.ensures ∙ length-replicate {A = ℕ} 1_024 0,
-      refl,
-      not_begun c.args.words.now c.args.counts.now,
-    )
+loop-holds c = (
+  omega arith,
+  refl,
+  ap length c.no_verdicts-verdicts.ensures ∙ length-replicate {A = ℕ} 1_024 0,
+  refl,
+  not_begun c.args.words.now c.args.counts.now,
+)
 
 -- ---- a piece has run, or was refused
 abbrev start : tie.After-run_piece-ran invariant-loop decreases-loop → tie.Start invariant-loop decreases-loop
@@ -56,7 +52,7 @@ legal c =
 
 piece : (c : tie.After-run_piece-ran invariant-loop decreases-loop) → ¬ (c.run_piece-ran.result ≡ minus 12) → let xs = (start c).args.counts.now in
     Ran (head c).loop-verdicts.words (take (length xs - (head c).loop-verdicts.i) (drop (head c).loop-verdicts.i xs)) (length (head c).loop-verdicts.verdicts)
-    c.run_piece-ran.new.0 c.run_piece-ran.new.1.1.0 c.run_piece-ran.result
+    c.run_piece-ran.new.words c.run_piece-ran.new.verdicts c.run_piece-ran.result
 piece c h =
     ran (head c).loop-verdicts.words _ (head c).loop-verdicts.verdicts _ _ c.run_piece-ran.result c.run_piece-ran.ensures
     ((head c).loop-verdicts.invariant.4.passed (legal c h)).state.legal
@@ -64,7 +60,7 @@ piece c h =
 array-share-prefix-verdicts : tie.Need-slice_bounds-verdicts-end invariant-loop decreases-loop
 array-share-prefix-verdicts c =
     let ran = c.before.before.before.before in
-    let whole : length ran.run_piece-ran.new.1.1.0 ≡ 1_024 = search rules in
+    let whole : length ran.run_piece-ran.new.verdicts ≡ 1_024 = search rules in
     omega (arith, whole, (piece ran c.if-ran.false).number, (head ran).loop-verdicts.invariant.2)
 
 slice-aggregate-leading-passes : tie.Need-slice_bounds-leading_passes-end invariant-loop decreases-loop
@@ -75,8 +71,8 @@ abbrev piece-ran : tie.After-leading_passes-passing invariant-loop decreases-loo
 piece-ran c = c.before.before.before.before.before.before
 
 turn : (c : tie.After-leading_passes-passing invariant-loop decreases-loop) → let ran = piece-ran c in
-    Turned (monitor_view_of (monitor_from (start ran).args.words.now)) (start ran).args.counts.now ran.run_piece-ran.last.0
-    ran.run_piece-ran.last.1.1.0 (head ran).loop-verdicts.i ran.run_piece-ran.result c.leading_passes-passing.result
+    Turned (monitor_view_of (monitor_from (start ran).args.words.now)) (start ran).args.counts.now ran.run_piece-ran.new.words
+    ran.run_piece-ran.new.verdicts (head ran).loop-verdicts.i ran.run_piece-ran.result c.leading_passes-passing.result
 turn c =
     let ran = piece-ran c in
     let known = c.if-ran.false in

@@ -1,6 +1,6 @@
 -- `closure::leasts::reaches_parts` meets its contract: before a turn it is known of the parts of up to a ticks.
 -- Assumes nothing.
-use Rattle.laws.proofs.Base.{ℕ, ◌+◌, ◌-◌, ◌≤◌, ◌<◌, ◌≡◌, subst, arith, rules, below_none, length, get_or}
+use Rattle.laws.proofs.Base.{ℕ, ◌+◌, ◌-◌, ◌≤◌, ◌<◌, ◌≡◌, subst, arith, rules, below_none, get_or}
 use Rattle.laws.specs.Tests.{Tells}
 use Rattle.laws.proofs.Tests.{leb_told, all_turn}
 use Rattle.closure.proofs.leasts.reaches_parts.Statement.{statement}

@@ -29,15 +29,15 @@ to-end-requires c κs =
 
 returns : tie.Need-returns
 returns c =
-    let ended = c.before.before.before.before in
-    let ls = ended.args.lower.now in
-    let found = ended.args.closed_lower.now in
-    let upper = ended.stand_ins-upper in
-    let lent : Pair = pair_of (take (length ls) ended.zeros-closed_upper.result) found in
-    subst⁻¹ (λ (r : Closing). LeastsEnded ls r ended.to_end-closing.new.1.1.1.0) c.without_ceilings.ensures
-    (stood_ended ls found ended.requires ended.to_end-closing.new.1.1.0 ended.to_end-closing.new.1.1.1.0 lent ended.to_end-closing.result
-    (subst (λ (p : Pair). Ended p ended.to_end-closing.result lent (pair_of ended.to_end-closing.new.1.1.0 ended.to_end-closing.new.1.1.1.0))
-    (stood_is ls found ended.requires upper.result upper.ensures) ended.to_end-closing.ensures))
+    let ls = c.args.lower.now in
+    let found = c.args.closed_lower.now in
+    let upper = c.stand_ins-upper in
+    let closed = c.to_end-closing.new in
+    let lent : Pair = pair_of (take (length ls) c.zeros-closed_upper.result) found in
+    subst⁻¹ (λ (r : Closing). LeastsEnded ls r closed.closed_lower) c.without_ceilings.ensures
+    (stood_ended ls found c.requires closed.closed_upper closed.closed_lower lent c.to_end-closing.result
+    (subst (λ (p : Pair). Ended p c.to_end-closing.result lent (pair_of closed.closed_upper closed.closed_lower))
+    (stood_is ls found c.requires upper.result upper.ensures) c.to_end-closing.ensures))
 
 pub to_end_spec : {M : Type 1} → statement M
 to_end_spec =

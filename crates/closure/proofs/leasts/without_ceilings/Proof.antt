@@ -1,6 +1,6 @@
 -- `closure::leasts::without_ceilings` meets its contract: in the last arm the answer is a refusal, and stays.
 -- Assumes nothing.
-use Rattle.laws.proofs.Base.{sym, ap, ◌∙◌, rules}
+use Rattle.laws.proofs.Base.{sym, ap, rules}
 use Rattle.closure.specs.Steps.{unlimited_as}
 use Rattle.closure.proofs.Running.{refusal_stays}
 use Rattle.closure.proofs.leasts.without_ceilings.Statement.{statement}

@@ -8,10 +8,9 @@ use Rattle.closure.proofs.run.deliver.Tie as tie
 
 returns : tie.Need-returns-in-Settled
 returns c =
-    let stop = c.stop-1 in
     let uppers = whole c.copy.ensures (search rules) in
     let lowers = whole c.copy-in-Settled.ensures (search rules) in
-    delivered _ _ _ _ _ stop.given.1 (same_pairs _ _ _ _ uppers lowers)
+    delivered _ _ _ _ _ c.in-Settled.is (same_pairs _ _ _ _ uppers lowers)
 
 pub deliver_spec : {M : Type 1} → statement M
 deliver_spec =

@@ -10,14 +10,11 @@ returns : tie.Need-returns
 returns c =
     let lowers = c.copy-lowers_same in
     let uppers = c.copy-uppers_same in
-    let first = c.before.before.before.before.before.before.before.before.before.before.before.before.before.before in
-    let us = first.args.upper.now in
-    let ls = first.args.lower.now in
     record {
       figures =
           same_pairs _ _ _ _ (whole uppers.ensures (search rules)) (whole lowers.ensures (search rules))
-          ∙ first.compute.ensures;
-      told = pairs-told us ls _ _ uppers.result lowers.result uppers.ensures.told lowers.ensures.told;
+          ∙ c.compute.ensures;
+      told = pairs-told c.args.upper.now c.args.lower.now _ _ uppers.result lowers.result uppers.ensures.told lowers.ensures.told;
     }
 
 pub next_round_spec : {M : Type 1} → statement M

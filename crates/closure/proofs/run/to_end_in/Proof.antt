@@ -6,48 +6,30 @@ use Rattle.closure.proofs.Running.{ready, ended, same_pairs}
 use Rattle.closure.proofs.run.to_end_in.Statement.{statement}
 use Rattle.closure.proofs.run.to_end_in.Tie as tie
 
--- The places before the rounds: the function's start, and the two copies.
-abbrev start : tie.After-copy → tie.Start
-start a = a.before.before.before.before.before.before.before.before.before.before
-
-abbrev first : tie.After-copy-2 → tie.After-copy
-first b = b.before.before.before.before
-
 until-stop-requires : tie.Need-until_stop-stop-requires
 until-stop-requires c κs =
-    let b = c.before.before.before.before.before.before in
-    let pre = (start (first b)).requires in
-    let copied = whole (first b).copy.ensures pre.1.0 in
+    let copied = whole c.copy.ensures c.requires.1.0 in
     let uppers = ap length copied in
-    let lowers = ap length (whole b.copy-2.ensures (omega (arith, pre))) in (
-      ready _ _ copied (pre.0.0, pre.0.1.1.0),
-      (omega (arith, uppers, lowers, pre), (omega (arith, uppers, pre), (omega (arith, uppers, pre), tt))),
+    let lowers = ap length (whole c.copy-2.ensures (omega (arith, c.requires))) in (
+      ready _ _ copied (c.requires.0.0, c.requires.0.1.1.0),
+      (omega (arith, uppers, lowers, c.requires), (omega (arith, uppers, c.requires), (omega (arith, uppers, c.requires), tt))),
     )
-
--- The place after the rounds, from the one before them.
-abbrev copied : tie.After-until_stop-stop → tie.After-copy-2
-copied r = r.before.before.before.before.before.before.before
 
 deliver-requires : tie.Need-deliver-requires
 deliver-requires c κs =
-    let r = c.before.before.before.before.before.before.before.before.before.before.before.before in
-    let pre = (start (first (copied r))).requires in
-    let kept = r.until_stop-stop.auto in
-    let uppers = ap length (whole (first (copied r)).copy.ensures pre.1.0) in
-    let lowers = ap length (whole (copied r).copy-2.ensures (omega (arith, pre))) in (
-      omega (arith, kept.0, kept.1.0, uppers, lowers, pre),
-      (omega (arith, kept.0, uppers, pre), (omega (arith, kept.0, uppers, pre), tt)),
+    let kept = c.until_stop-stop.auto in
+    let uppers = ap length (whole c.copy.ensures c.requires.1.0) in
+    let lowers = ap length (whole c.copy-2.ensures (omega (arith, c.requires))) in (
+      omega (arith, kept.upper, kept.lower, uppers, lowers, c.requires),
+      (omega (arith, kept.upper, uppers, c.requires), (omega (arith, kept.upper, uppers, c.requires), tt)),
     )
 
 returns : tie.Need-returns
 returns c =
-    let d = c.before.before.before.before in
-    let r = d.before.before.before.before.before.before.before.before.before.before.before.before.before in
-    let pre = (start (first (copied r))).requires in
-    let uppers = whole (first (copied r)).copy.ensures pre.1.0 in
-    let lowers = whole (copied r).copy-2.ensures (omega (arith, pre)) in
-    ended _ _ _ _ _ r.until_stop-stop.result d.deliver.result (same_pairs _ _ _ _ uppers lowers) r.until_stop-stop.ensures
-    d.deliver.ensures
+    let uppers = whole c.copy.ensures c.requires.1.0 in
+    let lowers = whole c.copy-2.ensures (omega (arith, c.requires)) in
+    ended _ _ _ _ _ c.until_stop-stop.result c.deliver.result (same_pairs _ _ _ _ uppers lowers) c.until_stop-stop.ensures
+    c.deliver.ensures
 
 pub to_end_in_spec : {M : Type 1} → statement M
 to_end_in_spec =
