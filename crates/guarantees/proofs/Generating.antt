@@ -157,7 +157,9 @@ module _ (p : AnyPair) (o : opening p ≡ result tt) where
   sent_conforming v (choice ∷ choices) ys [] s k e = absurd (omega (arith, ap length e))
   sent_conforming v (choice ∷ choices) ys (x ∷ xs) s k e =
       let h : sending v choice ≡ result x = cc in
-      let (all, offered) = sent_conforming _ choices (then ys x) xs (sent_on v ys s choice x h) (sent_conforms v ys s choice x k h) cc in
+      let (all, offered) =
+      sent_conforming (view_after (sending v choice) v) choices (then ys x) xs (sent_on v ys s choice x h)
+      (sent_conforms v ys s choice x k h) cc in
       (rw (← append_assoc ys (x ∷ []) xs) all, ((sent_both v ys s choice x h).1, offered))
 
 pub sends_conforming : SendsConforming

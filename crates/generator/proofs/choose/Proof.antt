@@ -11,12 +11,9 @@ use Rattle.generator.proofs.Ranging.{chosen_below, chosen_is}
 use Rattle.generator.proofs.choose.Statement.{statement}
 use Rattle.generator.proofs.choose.Tie as tie
 
-abbrev start : tie.In-Range → tie.Start
-start c = c.before.before.before
-
 -- What is required, where there is a range.
 known : (c : tie.In-Range) → ChoosesWhere (Range c.in-Range.lo c.in-Range.hi)
-known c = subst ChoosesWhere c.in-Range.is (start c).requires
+known c = subst ChoosesWhere c.in-Range.is c.requires
 
 -- What is promised, for the range that was shown.
 abbrev For : ℕ → Reply ℕ → Admissible → Type 0
@@ -24,9 +21,7 @@ For choice reply a = reply ≡ sent_from (range_reply a) choice
 
 returns : tie.Need-returns-in-Range
 returns c =
-    let told = c.admissible-1.given in
-    let choice = (start c).args.choice in
-    subst⁻¹ (For choice _) told.1 (ap result (chosen_is told.0.0 told.0.1.0 choice))
+    subst⁻¹ (For c.args.choice _) c.in-Range.is (ap result (chosen_is c.in-Range.lo c.in-Range.hi c.args.choice))
 
 pub choose_spec : {M : Type 1} → statement M
 choose_spec =
@@ -36,7 +31,7 @@ choose_spec =
     (λ c. (known c).0)
     (λ c. omega (arith, (known c).0, (known c).1))
     (λ c. search rules)
-    (λ c. omega (arith, (known c).1, chosen_below _ _ (start c).args.choice (known c).0))
+    (λ c. omega (arith, (known c).1, chosen_below _ _ c.args.choice (known c).0))
     (λ c. search rules)
     (λ c. search rules)
     returns

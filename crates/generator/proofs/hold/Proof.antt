@@ -7,19 +7,14 @@ use Rattle.generator.proofs.hold.Statement.{statement}
 use Rattle.generator.proofs.hold.Tie as tie
 
 -- Where a count is sent: there is a window, and a place for each.
-abbrev start : tie.In-Sent → tie.Start
-start t = t.before.before.before.before
-
-places : (t : tie.In-Sent) → (1 ≤ (start t).args.horizon) × ((start t).args.horizon ≤ length (start t).args.ticks.now)
-places t = subst (λ s. HoldsWhere s (start t).args.horizon (start t).args.ticks.now) t.in-Sent.is (start t).requires
+places : (t : tie.In-Sent) → (1 ≤ t.args.horizon) × (t.args.horizon ≤ length t.args.ticks.now)
+places t = subst (λ s. HoldsWhere s t.args.horizon t.args.ticks.now) t.in-Sent.is t.requires
 
 returns : tie.Need-returns-in_default
 returns c = held_as_found c.args.sending _ _ _ c.in_default.in_default-own.keys2
 
 returns-2 : tie.Need-returns
-returns-2 c =
-    let told = c.before.before.before.before in
-    held_more (start told).args.sending _ _ _ _ _ _ told.in-Sent.is c.push.ensures
+returns-2 c = held_more c.args.sending _ _ _ _ _ _ c.in-Sent.is c.push.ensures
 
 pub hold_spec : {M : Type 1} → statement M
 hold_spec =

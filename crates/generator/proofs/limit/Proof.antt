@@ -67,13 +67,13 @@ loop-again c =
     let ceiling : ℕ → ℕ = λ i. get_or s.args.upper.now i 0 in
     let mark = s.args.unlimited in
     let rest = h.rest - one a - other b in
-    let less : h.rest - one a ≤ sum_limit = omega (arith, h.inv.0) in
-    let more : sum_limit ≤ h.rest - one a + (h.d + 1) * count_limit = omega (arith, one-small a, one_left a, h.inv.1) in
+    let less : h.rest - one a ≤ sum_limit = omega (arith, h.invariant.0) in
+    let more : sum_limit ≤ h.rest - one a + (h.d + 1) * count_limit = omega (arith, one-small a, one_left a, h.invariant.1) in
     let most : sum_limit ≤ h.rest - one a - other b + (h.d + 1 + 1) * count_limit =
     omega (arith, other-small b, other-left b, more) in
     let both : h.rest - one a - other b + other b ≡ h.rest - one a = omega (arith, other-left b) in
     let first =
-    rested-more _ _ s.args.unlimited _ s.requires _ _ _ _ _ _ h.inv.2 (omega (arith, inside)) h.inv.0 (one a) refl (one_left a)
+    rested-more _ _ s.args.unlimited _ s.requires _ _ _ _ _ _ h.invariant.2 (omega (arith, inside)) h.invariant.0 (one a) refl (one_left a)
     more refl refl in (
       omega (arith, less),
       most,
@@ -114,9 +114,9 @@ returns-2 c =
     let a = found.before.before in
     let h = (tail a).loop-d in
     let s = begun a in
-    let more : sum_limit ≤ h.rest - oldest a + (h.d + 1) * count_limit = omega (arith, oldest-small a, oldest-left a, h.inv.1) in
+    let more : sum_limit ≤ h.rest - oldest a + (h.d + 1) * count_limit = omega (arith, oldest-small a, oldest-left a, h.invariant.1) in
     let whole =
-    rested-more _ _ s.args.unlimited _ s.requires _ _ _ _ _ _ h.inv.2 (omega (arith, a.if-held-d.false)) h.inv.0 (oldest a)
+    rested-more _ _ s.args.unlimited _ s.requires _ _ _ _ _ _ h.invariant.2 (omega (arith, a.if-held-d.false)) h.invariant.0 (oldest a)
     refl (oldest-left a) more found.larger-last.ensures c.lowered.ensures in
     rw c.cut_off-2.ensures (narrowed-whole _ _ _ _ _ _ _ _ whole (omega (arith, a.loop-d-test.false)))
 
@@ -174,7 +174,7 @@ limit_spec =
     (λ c. search rules)
     (λ c. search rules)
     (λ c. omega (arith, c.shared_slice_known-7-1.given ((tail c.before).loop-d.d + 1)))
-    (λ c. let h = (tail c.before).loop-d in omega (arith, c.shared_slice_known-7-1.given (h.d + 1), h.inv.0))
+    (λ c. let h = (tail c.before).loop-d in omega (arith, c.shared_slice_known-7-1.given (h.d + 1), h.invariant.0))
     (λ c κs. search rules)
     (λ c. search rules)
     (λ c. search rules)

@@ -13,8 +13,7 @@ abbrev For : Closing → Type 0
 For closing = NotClosed ≡ generator_opening_for closing
 
 returns-2 : tie.Need-returns-else-rounds-eq0
-returns-2 c =
-    let told = c.closing-1.given in subst⁻¹ For told.1 (some_round _ told.0.1.0 c.if-rounds-eq0.false)
+returns-2 c = subst⁻¹ For c.in-Closed.is (some_round _ _ c.if-rounds-eq0.false)
 
 pub opening_for_spec : {M : Type 1} → statement M
 opening_for_spec =

@@ -8,7 +8,7 @@ use Rattle.generator.proofs.Generator.open.Tie as tie
 returns : tie.Need-returns
 returns c =
     let asked = c.ask_opening-opening in
-    let start = c.before.before.«open» in
+    let start = c.open-start in
     record {
       answer = asked.ensures;
       history = rw c.begin-state.ensures (begun_is _ start.result.history asked.result asked.ensures start.ensures.history);
