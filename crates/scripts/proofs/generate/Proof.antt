@@ -5,9 +5,6 @@ use Rattle.scripts.proofs.Given.{sent_bad, sent_run}
 use borrow.Author.Rules.{rules}
 use Rattle.scripts.proofs.generate.Statement.{statement}
 use Rattle.scripts.proofs.generate.Tie as tie
-use Rattle.scripts.proofs.send_legal.Reads as send_legal_reads
-use Rattle.scripts.proofs.smaller.Reads as smaller_reads
-use Rattle.scripts.proofs.words.legal_generator.Reads as legal_generator_reads
 
 returns : tie.Need-returns-then-not-legal_generator
 returns c =
@@ -21,20 +18,17 @@ slice-aggregate-send-legal-2 : tie.Need-slice_bounds-send_legal-end-3
 slice-aggregate-send-legal-2 c = sym (length-take-le _ _ (omega (arith, c.smaller-n.ensures)))
 
 send-legal-requires : tie.Need-send_legal-requires
-send-legal-requires c κs =
-    let m = c.before.before.before in
-    (
-      told_yes _ m.legal_generator.result m.if-not-legal_generator.false m.legal_generator.ensures,
-      length-take-le m.smaller-n.result m.args.counts.now (omega (arith, m.smaller-n.ensures)) ∙ sym
-          (length-take-le m.smaller-n.result m.args.choices.now (omega (arith, m.smaller-n.ensures))),
-    )
+send-legal-requires c κs = (
+  told_yes _ c.legal_generator.result c.if-not-legal_generator.false-raw c.legal_generator.ensures,
+  length-take-le c.smaller-n.result c.args.counts.now (omega (arith, c.smaller-n.ensures)) ∙ sym
+      (length-take-le c.smaller-n.result c.args.choices.now (omega (arith, c.smaller-n.ensures))),
+)
 
 returns-2 : tie.Need-returns
 returns-2 c =
-    let m = c.before.before.before.before.before.before.before.before in
-    sent_run m.args.state.now m.args.choices.now m.args.counts.now m.smaller-n.result _ _
-    (told_yes _ m.legal_generator.result m.if-not-legal_generator.false m.legal_generator.ensures)
-    m.smaller-n.ensures c.send_legal.ensures
+    sent_run c.args.state.now c.args.choices.now c.args.counts.now c.smaller-n.result _ _
+    (told_yes _ c.legal_generator.result c.if-not-legal_generator.false-raw c.legal_generator.ensures)
+    c.smaller-n.ensures c.send_legal.ensures
 
 pub generate_spec : {M : Type 1} → statement M
 generate_spec =

@@ -5,9 +5,6 @@ use Rattle.scripts.proofs.Given.{judged_bad, judged_run}
 use borrow.Author.Rules.{rules}
 use Rattle.scripts.proofs.judge.Statement.{statement}
 use Rattle.scripts.proofs.judge.Tie as tie
-use Rattle.scripts.proofs.judge_legal.Reads as judge_legal_reads
-use Rattle.scripts.proofs.smaller.Reads as smaller_reads
-use Rattle.scripts.proofs.words.legal_monitor.Reads as legal_monitor_reads
 
 returns : tie.Need-returns-then-not-legal_monitor
 returns c =
@@ -21,20 +18,17 @@ slice-aggregate-judge-legal-2 : tie.Need-slice_bounds-judge_legal-end-3
 slice-aggregate-judge-legal-2 c = sym (length-take-le _ _ (omega (arith, c.smaller-n.ensures)))
 
 judge-legal-requires : tie.Need-judge_legal-requires
-judge-legal-requires c κs =
-    let m = c.before.before.before.before in
-    (
-      told_yes _ m.legal_monitor.result m.if-not-legal_monitor.false m.legal_monitor.ensures,
-      length-take-le m.smaller-n.result m.args.verdicts.now (omega (arith, m.smaller-n.ensures)) ∙ sym
-          (length-take-le m.smaller-n.result m.args.counts.now (omega (arith, m.smaller-n.ensures))),
-    )
+judge-legal-requires c κs = (
+  told_yes _ c.legal_monitor.result c.if-not-legal_monitor.false-raw c.legal_monitor.ensures,
+  length-take-le c.smaller-n.result c.args.verdicts.now (omega (arith, c.smaller-n.ensures)) ∙ sym
+      (length-take-le c.smaller-n.result c.args.counts.now (omega (arith, c.smaller-n.ensures))),
+)
 
 returns-2 : tie.Need-returns
 returns-2 c =
-    let m = c.before.before.before.before.before.before.before.before.before.before in
-    judged_run m.args.state.now m.args.counts.now m.args.verdicts.now m.args.margins.now m.smaller-n.result _ _ _
-    (told_yes _ m.legal_monitor.result m.if-not-legal_monitor.false m.legal_monitor.ensures)
-    m.smaller-n.ensures c.judge_legal.ensures
+    judged_run c.args.state.now c.args.counts.now c.args.verdicts.now c.args.margins.now c.smaller-n.result _ _ _
+    (told_yes _ c.legal_monitor.result c.if-not-legal_monitor.false-raw c.legal_monitor.ensures)
+    c.smaller-n.ensures c.judge_legal.ensures
 
 pub judge_spec : {M : Type 1} → statement M
 judge_spec =

@@ -4,8 +4,6 @@ use Rattle.scripts.proofs.Given.{judged_asked, judged_both, judged_all_lem}
 use borrow.Author.Rules.{rules}
 use Rattle.scripts.proofs.judge_legal.Statement.{statement}
 use Rattle.scripts.proofs.judge_legal.Tie as tie
-use Rattle.scripts.proofs.judging.judge_first.Reads as judge_first_reads
-use Rattle.scripts.proofs.judging.judge_rest.Reads as judge_rest_reads
 
 judge-rest-requires-2 : tie.Need-judge_rest-requires-then-sure-counts
 judge-rest-requires-2 c κs =

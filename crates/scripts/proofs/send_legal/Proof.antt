@@ -4,8 +4,6 @@ use Rattle.scripts.proofs.Given.{sent_asked, sent_both, sent_all_lem}
 use borrow.Author.Rules.{rules}
 use Rattle.scripts.proofs.send_legal.Statement.{statement}
 use Rattle.scripts.proofs.send_legal.Tie as tie
-use Rattle.scripts.proofs.generating.send_first.Reads as send_first_reads
-use Rattle.scripts.proofs.generating.send_rest.Reads as send_rest_reads
 
 send-rest-requires : tie.Need-send_rest-requires
 send-rest-requires c κs =

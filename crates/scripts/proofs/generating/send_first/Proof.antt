@@ -1,23 +1,21 @@
 -- `scripts::generating::send_first` meets its contract: the slices are what the words spell, and the counts that are sent are held.
 -- Assumes nothing.
-use Rattle.laws.proofs.Base.{◌≤◌, refl, sym, subst, subst⁻¹, arith, length, rules, length-take-le}
+use Rattle.laws.proofs.Base.{ℕ, ◌≤◌, List, refl, sym, subst, subst⁻¹, arith, length, rules, length-take-le}
 use Rattle.history.specs.States.{Legal}
 use Rattle.history.proofs.Histories.{Sizes, legal_sizes}
-use Rattle.scripts.specs.Words.{generator_words, word, history_from}
+use Rattle.scripts.specs.Words.{LegalGeneratorWords, generator_words, word, history_from}
 use Rattle.scripts.specs.Steps.{SendsFirst}
 use Rattle.scripts.proofs.Asked.{slices, view_seen}
 use Rattle.scripts.proofs.Held.{first_sent}
 use borrow.Author.Rules.{rules}
 use Rattle.scripts.proofs.generating.send_first.Statement.{statement}
 use Rattle.scripts.proofs.generating.send_first.Tie as tie
-use Rattle.scripts.proofs.sending.send_first.Reads as send_first_reads
-use Rattle.scripts.proofs.words.hold.Reads as hold_reads
 
-sizes : (s : tie.Start) → Sizes (history_from s.args.state.now)
-sizes s = legal_sizes (history_from s.args.state.now) s.requires.0.1
+sizes : (ws : List ℕ) → LegalGeneratorWords ws → Sizes (history_from ws)
+sizes ws l = legal_sizes (history_from ws) l.1
 
-enough : (s : tie.Start) → generator_words ≤ length s.args.state.now
-enough s = omega (arith, s.requires.0.0)
+enough : (ws : List ℕ) → LegalGeneratorWords ws → generator_words ≤ length ws
+enough ws l = omega (arith, l.0)
 
 cast-horizon : tie.Need-overflow_cast-horizon
 cast-horizon c = omega (arith, c.slice_known-3-1.given 0)
@@ -26,24 +24,24 @@ cast-held : tie.Need-overflow_cast-held
 cast-held c = omega (arith, c.slice_known-4-1.given 514)
 
 add-send-first : tie.Need-overflow_add-horizon
-add-send-first c = omega (arith, (sizes c.before.before.before.before.before).within)
+add-send-first c = omega (arith, (sizes _ c.requires.0).within)
 
 part-send-first-end : tie.Need-slice_bounds-send_first-end
 part-send-first-end c =
     omega (
       arith,
-      (sizes c.before.before.before.before.before.before).within,
+      (sizes _ c.requires.0).within,
       c.requires.0.0,
     )
 
 add-send-first-2 : tie.Need-overflow_add-horizon-2
-add-send-first-2 c = omega (arith, (sizes c.before.before.before.before.before.before.before).within)
+add-send-first-2 c = omega (arith, (sizes _ c.requires.0).within)
 
 part-send-first-end-2 : tie.Need-slice_bounds-send_first-end-2
 part-send-first-end-2 c =
     omega (
       arith,
-      (sizes c.before.before.before.before.before.before.before).within,
+      (sizes _ c.requires.0).within,
       c.requires.0.0,
     )
 
@@ -51,32 +49,31 @@ add-send-first-3 : tie.Need-overflow_add-held
 add-send-first-3 c =
     omega (
       arith,
-      (sizes c.before.before.before.before.before.before.before.before).within,
-      (sizes
-          c.before.before.before.before.before.before.before.before).fewer,
+      (sizes _ c.requires.0).within,
+      (sizes _ c.requires.0).fewer,
     )
 
 part-send-first-end-3 : tie.Need-slice_bounds-send_first-end-3
 part-send-first-end-3 c =
     omega (
       arith,
-      (sizes c.before.before.before.before.before.before.before.before).within,
-      (sizes
-          c.before.before.before.before.before.before.before.before).fewer,
+      (sizes _ c.requires.0).within,
+      (sizes _ c.requires.0).fewer,
       c.requires.0.0,
     )
 
 send-first-requires : tie.Need-send_first-n-requires
 send-first-requires c κs =
-    let s = c.before.before.before.before.before.before.before.before.before.before in
-    let ws = s.args.state.now in (
-      slices ws 2 258 (word 0 ws) (word 514 ws) (enough s) (omega (arith, (sizes s).within, enough s))
-          (omega (arith, (sizes s).within, enough s))
-          (sizes s).within (sizes s).fewer,
+    let ws = c.args.state.now in
+    let sizes = sizes ws c.requires.0 in
+    let enough = enough ws c.requires.0 in (
+      slices ws 2 258 (word 0 ws) (word 514 ws) enough (omega (arith, sizes.within, enough))
+          (omega (arith, sizes.within, enough))
+          sizes.within sizes.fewer,
       (
-        subst⁻¹ Legal (view_seen ws (enough s) (sizes s).within (word 514 ws) (omega (arith, (sizes s).within, (sizes s).fewer)) refl)
-            s.requires.0.1,
-        s.requires.1,
+        subst⁻¹ Legal (view_seen ws enough sizes.within (word 514 ws) (omega (arith, sizes.within, sizes.fewer)) refl)
+            c.requires.0.1,
+        c.requires.1,
       ),
     )
 
@@ -92,14 +89,15 @@ slice-aggregate-hold c =
 
 returns : tie.Need-returns
 returns c =
-    let s = c.before.before.before.before.before.before.before.before.before.before.before.before.before.before.before.before.before.before in
-    let ws = s.args.state.now in
-    first_sent ws s.requires.0 _ s.args.counts.now _ _ c.send_first-n.result
-    (subst (λ v. SendsFirst v s.args.choices.now s.args.counts.now
-    c.send_first-n.new.1.1.1.1.1.0
+    let ws = c.args.state.now in
+    let sizes = sizes ws c.requires.0 in
+    let enough = enough ws c.requires.0 in
+    first_sent ws c.requires.0 _ c.args.counts.now _ _ c.send_first-n.result
+    (subst (λ v. SendsFirst v c.args.choices.now c.args.counts.now
+    c.send_first-n.new.counts
     c.send_first-n.result)
-    (view_seen ws (enough s) (sizes s).within (word 514 ws) (omega (arith, (sizes s).within, (sizes s).fewer)) refl)
-    c.send_first-n.ensures) s.requires.1 c.hold.ensures
+    (view_seen ws enough sizes.within (word 514 ws) (omega (arith, sizes.within, sizes.fewer)) refl)
+    c.send_first-n.ensures) c.requires.1 c.hold.ensures
 
 pub send_first_spec : {M : Type 1} → statement M
 send_first_spec =

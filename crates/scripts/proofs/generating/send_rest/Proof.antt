@@ -9,35 +9,26 @@ use Rattle.scripts.proofs.Written.{sent_fit}
 use borrow.Author.Rules.{rules}
 use Rattle.scripts.proofs.generating.send_rest.Statement.{statement}
 use Rattle.scripts.proofs.generating.send_rest.Tie as tie
-use Rattle.scripts.proofs.generating.send_all.Reads as send_all_reads
-use Rattle.scripts.proofs.words.read_history.Reads as read_history_reads
-use Rattle.scripts.proofs.words.write_held.Reads as write_held_reads
 
--- Where all choices are sent.
-abbrev start : tie.After-send_all-left → tie.Start
-start j = j.before.before.before.before.before.before.before
-
+-- All choices are sent from what the words spell.
 told : (j : tie.After-send_all-left)
-    → SentByValue (view_of (history_from (start j).args.state.now)) (start j).args.choices.now j.send_all-left.new.1.1.0
-    j.send_all-left.result
+    → SentByValue (view_of (history_from j.args.state.now)) j.args.choices.now j.send_all-left.new.counts j.send_all-left.result
 told j =
-    subst
-    (λ (h : History). SentByValue (view_of h) (start j).args.choices.now j.send_all-left.new.1.1.0 j.send_all-left.result)
+    subst (λ (h : History). SentByValue (view_of h) j.args.choices.now j.send_all-left.new.counts j.send_all-left.result)
     j.read_history-history.ensures j.send_all-left.ensures
 
 write-held-requires : tie.Need-write_held-requires
 write-held-requires c κs =
-    let j = c.before.before.before in (
-      omega (arith, (start j).requires.0.0),
-      sent_fit (start j).args.state.now (start j).requires.0
-          (start j).args.choices.now j.send_all-left.result.history (told j).state,
+    let j = c.before.before.before.before in (
+      omega (arith, c.requires.0.0),
+      sent_fit c.args.state.now c.requires.0 c.args.choices.now c.send_all-left.result.history (told j).state,
     )
 
 returns : tie.Need-returns
 returns c =
-    let j = c.before.before.before.before.before.before in
+    let j = c.before.before.before.before.before.before.before in
     record {
-      state = c.write_held.ensures ∙ ap (λ (v : View). with_held (start j).args.state.now v.held) (told j).state;
+      state = c.write_held.ensures ∙ ap (λ (v : View). with_held c.args.state.now v.held) (told j).state;
       counts = (told j).counts;
     }
 

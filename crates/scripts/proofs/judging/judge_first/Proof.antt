@@ -1,13 +1,13 @@
 -- `scripts::judging::judge_first` meets its contract: the slices are what the words spell, and the counts that pass are held.
 -- Assumes nothing.
 use Rattle.laws.proofs.Base.{◌+◌, ◌≤◌, ◌≡◌, refl, sym, ap, ◌∙◌, subst, subst⁻¹, ◌++◌, false, arith, rules, length, drop, length-take-le}
-use Rattle.laws.proofs.Base.{le-ltb, ℕ}
+use Rattle.laws.proofs.Base.{ℕ, List}
 use Rattle.history.proofs.Histories.{Sizes, legal_sizes}
 use Rattle.history.specs.Steps.{view_with}
 use Rattle.curves.specs.Pairs.{pair_of}
 use Rattle.curves.specs.Unlimited.{with_mark}
 use Rattle.monitor.specs.Monitoring.{LegalMonitor, monitor_view, closed_in, monitor_view_of}
-use Rattle.scripts.specs.Words.{generator_words, monitor_words, mark_from, word, history_from, monitor_from}
+use Rattle.scripts.specs.Words.{generator_words, LegalMonitorWords, mark_from, word, history_from, monitor_from}
 use Rattle.scripts.specs.Steps.{PassesFirst}
 use Rattle.scripts.proofs.Asked.{slice, slices, slice_length, monitor_seen}
 use Rattle.scripts.proofs.Held.{none_judged, first_judged}
@@ -18,25 +18,24 @@ use Rattle.scripts.proofs.words.fill.Reads as fill_reads
 use Rattle.scripts.proofs.passing.count_passing.Reads as count_passing_reads
 use Rattle.scripts.proofs.words.hold.Reads as hold_reads
 
-sizes : (s : tie.Start) → Sizes (history_from s.args.state.now)
-sizes s = legal_sizes (history_from s.args.state.now) s.requires.0.1.given
+sizes : (ws : List ℕ) → LegalMonitorWords ws → Sizes (history_from ws)
+sizes ws legal = legal_sizes (history_from ws) legal.1.given
 
-enough : (s : tie.Start) → generator_words ≤ length s.args.state.now
-enough s = omega (arith, s.requires.0.0)
+enough : (ws : List ℕ) → LegalMonitorWords ws → generator_words ≤ length ws
+enough ws legal = omega (arith, legal.0)
 
 -- There are words for each window from any field of figures on.
-room : (s : tie.Start) (k : ℕ) → k ≤ 1_027 → k + word 0 s.args.state.now ≤ length s.args.state.now
-room s k h = omega (arith, s.requires.0.0, (sizes s).within)
+room : (ws : List ℕ) → LegalMonitorWords ws → (k : ℕ) → k ≤ 1_027 → k + word 0 ws ≤ length ws
+room ws legal k h = omega (arith, legal.0, (sizes ws legal).within)
 
-seen : (s : tie.Start) → let ws = s.args.state.now in word 1_283 ws ≡ 0
+seen : (ws : List ℕ) → LegalMonitorWords ws → word 1_283 ws ≡ 0
     → monitor_view (view_with (slice 2 (word 0 ws) ws) (slice 258 (word 0 ws) ws) (mark_from (word 1 ws)) (slice 515 (word 514 ws) ws))
     (closed_in (with_mark (slice 2 (word 0 ws) ws) (slice 258 (word 0 ws) ws) (mark_from (word 1 ws)))
     (pair_of (slice 771 (word 0 ws) ws) (slice 1_027 (word 0 ws) ws))) false
     ≡ monitor_view_of (monitor_from ws)
-seen s unset =
-    let ws = s.args.state.now in
-    monitor_seen ws s.requires.0.0 (sizes s).within (word 514 ws) false (omega (arith, (sizes s).within, (sizes s).fewer)) refl
-    (ap mark_from unset)
+seen ws legal unset =
+    let sizes = sizes ws legal in
+    monitor_seen ws legal.0 sizes.within (word 514 ws) false (omega (arith, sizes.within, sizes.fewer)) refl (ap mark_from unset)
 
 returns : tie.Need-returns-then-state-gt0
 returns c =
@@ -49,82 +48,56 @@ cast-held : tie.Need-overflow_cast-held
 cast-held c = omega (arith, c.slice_known-5-1.given 514)
 
 add-count-passing : tie.Need-overflow_add-horizon
-add-count-passing c = omega (arith, (sizes c.before.before.before.before.before.before.before).within)
+add-count-passing c = omega (arith, (sizes _ c.requires.0).within)
 
 part-count-passing-end : tie.Need-slice_bounds-count_passing-end
-part-count-passing-end c =
-    omega (
-      arith,
-      (sizes c.before.before.before.before.before.before.before.before).within,
-      c.requires.0.0,
-    )
+part-count-passing-end c = omega (arith, (sizes _ c.requires.0).within, c.requires.0.0)
 
 add-count-passing-2 : tie.Need-overflow_add-horizon-2
-add-count-passing-2 c = omega (arith, (sizes c.before.before.before.before.before.before.before.before.before).within)
+add-count-passing-2 c = omega (arith, (sizes _ c.requires.0).within)
 
 part-count-passing-end-2 : tie.Need-slice_bounds-count_passing-end-2
-part-count-passing-end-2 c =
-    omega (
-      arith,
-      (sizes c.before.before.before.before.before.before.before.before.before).within,
-      c.requires.0.0,
-    )
+part-count-passing-end-2 c = omega (arith, (sizes _ c.requires.0).within, c.requires.0.0)
 
 add-count-passing-3 : tie.Need-overflow_add-horizon-3
-add-count-passing-3 c = omega (arith, (sizes c.before.before.before.before.before.before.before.before.before.before).within)
+add-count-passing-3 c = omega (arith, (sizes _ c.requires.0).within)
 
 part-count-passing-end-3 : tie.Need-slice_bounds-count_passing-end-3
-part-count-passing-end-3 c =
-    omega (
-      arith,
-      (sizes c.before.before.before.before.before.before.before.before.before.before).within,
-      c.requires.0.0,
-    )
+part-count-passing-end-3 c = omega (arith, (sizes _ c.requires.0).within, c.requires.0.0)
 
 add-count-passing-4 : tie.Need-overflow_add-horizon-4
-add-count-passing-4 c =
-    omega (arith, (sizes c.before.before.before.before.before.before.before.before.before.before.before).within)
+add-count-passing-4 c = omega (arith, (sizes _ c.requires.0).within)
 
 part-count-passing-end-4 : tie.Need-slice_bounds-count_passing-end-4
-part-count-passing-end-4 c =
-    omega (
-      arith,
-      (sizes c.before.before.before.before.before.before.before.before.before.before.before).within,
-      c.requires.0.0,
-    )
+part-count-passing-end-4 c = omega (arith, (sizes _ c.requires.0).within, c.requires.0.0)
 
 add-count-passing-5 : tie.Need-overflow_add-held
-add-count-passing-5 c =
-    omega (
-      arith,
-      (sizes c.before.before.before.before.before.before.before.before.before.before.before.before).within,
-      (sizes
-          c.before.before.before.before.before.before.before.before.before.before.before.before).fewer,
-    )
+add-count-passing-5 c = omega (arith, (sizes _ c.requires.0).within, (sizes _ c.requires.0).fewer)
 
 part-count-passing-end-5 : tie.Need-slice_bounds-count_passing-end-5
 part-count-passing-end-5 c =
     omega (
       arith,
-      (sizes c.before.before.before.before.before.before.before.before.before.before.before.before).within,
-      (sizes
-          c.before.before.before.before.before.before.before.before.before.before.before.before).fewer,
+      (sizes _ c.requires.0).within,
+      (sizes _ c.requires.0).fewer,
       c.requires.0.0,
     )
 
 count-passing-requires : tie.Need-count_passing-n-requires
 count-passing-requires c κs =
-    let s = c.before.before.before.before.before.before.before.before.before.before.before.before.before in
-    let ws = s.args.state.now in
+    let ws = c.args.state.now in
+    let legal = c.requires.0 in
+    let sizes = sizes ws legal in
     let unset : word 1_283 ws ≡ 0 = omega (arith, c.if-state-gt0.false) in
     let h = word 0 ws in (
-      slices ws 2 258 h (word 514 ws) (enough s) (room s 2 (omega arith)) (room s 258 (omega arith)) (sizes s).within (sizes s).fewer,
+      slices ws 2 258 h (word 514 ws) (enough ws legal) (room ws legal 2 (omega arith)) (room ws legal 258 (omega arith)) sizes.within
+          sizes.fewer,
       (
-        slices ws 771 1_027 h (word 514 ws) (enough s) (room s 771 (omega arith)) (room s 1_027 (omega arith)) (sizes s).within
-            (sizes s).fewer,
+        slices ws 771 1_027 h (word 514 ws) (enough ws legal) (room ws legal 771 (omega arith)) (room ws legal 1_027 (omega arith))
+            sizes.within sizes.fewer,
         (
-          slice_length 771 h ws (room s 771 (omega arith)) ∙ sym (slice_length 2 h ws (room s 2 (omega arith))),
-          subst⁻¹ LegalMonitor (seen s unset) s.requires.0.1,
+          slice_length 771 h ws (room ws legal 771 (omega arith)) ∙ sym (slice_length 2 h ws (room ws legal 2 (omega arith))),
+          subst⁻¹ LegalMonitor (seen ws legal unset) legal.1,
         ),
       ),
     )
@@ -133,31 +106,21 @@ slice-aggregate-hold : tie.Need-slice_bounds-hold-end
 slice-aggregate-hold c = sym (length-take-le _ _ c.count_passing-n.ensures.0)
 
 hold-requires : tie.Need-hold-requires
-hold-requires c κs =
-    let s = c.before.before.before.before.before.before.before.before.before.before.before.before.before.before.before.before in (enough s, s.requires.0.1.given)
+hold-requires c κs = (enough c.args.state.now c.requires.0, c.requires.0.1.given)
 
 slice-aggregate-fill : tie.Need-slice_bounds-fill-end-2
 slice-aggregate-fill c =
-    sym (length-take-le _ _ (omega (
-      arith,
-      c.count_passing-n.ensures.0,
-      c.requires.1,
-    )))
+    sym (length-take-le _ _ (omega (arith, c.count_passing-n.ensures.0, c.requires.1)))
 
 returns-2 : tie.Need-returns
 returns-2 c =
-    let s = c.before.before.before.before.before.before.before.before.before.before.before.before.before.before.before.before.before.before.before.before.before.before.before in
-    let ws = s.args.state.now in
-    let unset : word 1_283 ws ≡ 0 = omega (
-      arith,
-      c.if-state-gt0.false,
-    ) in
-    first_judged ws s.requires.0 unset s.args.counts.now s.args.verdicts.now
+    let ws = c.args.state.now in
+    let unset : word 1_283 ws ≡ 0 = omega (arith, c.if-state-gt0.false) in
+    first_judged ws c.requires.0 unset c.args.counts.now c.args.verdicts.now
     c.count_passing-n.result
-    (subst (λ w. PassesFirst w s.args.counts.now c.count_passing-n.result) (seen s unset) c.count_passing-n.ensures)
-    s.requires.1 _ _ c.hold.ensures
-    (ap (λ t. t ++ drop c.count_passing-n.result
-    s.args.verdicts.now) c.fill.ensures)
+    (subst (λ w. PassesFirst w c.args.counts.now c.count_passing-n.result) (seen ws c.requires.0 unset) c.count_passing-n.ensures)
+    c.requires.1 _ _ c.hold.ensures
+    (ap (λ t. t ++ drop c.count_passing-n.result c.args.verdicts.now) c.fill.ensures)
 
 pub judge_first_spec : {M : Type 1} → statement M
 judge_first_spec =

@@ -16,39 +16,32 @@ use Rattle.scripts.proofs.words.write_held.Reads as write_held_reads
 -- The state that goes out is legal.
 judge-all-requires : tie.Need-judge_all-left-requires
 judge-all-requires c κs =
-    let read = c.before.before in
-    (read.requires.1, subst⁻¹ (λ m. LegalMonitor (monitor_view_of m)) read.read_monitor-opened.ensures read.requires.0.1)
+    (c.requires.1, subst⁻¹ (λ m. LegalMonitor (monitor_view_of m)) c.read_monitor-opened.ensures c.requires.0.1)
 
--- Where all counts are judged.
-abbrev start : tie.After-judge_all-left → tie.Start
-start j = j.before.before.before.before.before.before.before.before
-
-told : (j : tie.After-judge_all-left)
-    → JudgedByValue (monitor_view_of (monitor_from (start j).args.state.now)) (start j).args.counts.now (start j).args.margins.now
-    j.judge_all-left.new.1.1.0 j.judge_all-left.new.1.1.1.0 j.judge_all-left.result
+-- What is left where all counts are judged, told of the monitor that the words spell.
+told : (j : tie.After-write_held-arg-2-1)
+    → JudgedByValue (monitor_view_of (monitor_from j.args.state.now)) j.args.counts.now j.args.margins.now
+    j.judge_all-left.new.verdicts j.judge_all-left.new.margins j.judge_all-left.result
 told j =
     subst
-    (λ m. JudgedByValue (monitor_view_of m) (start j).args.counts.now (start j).args.margins.now j.judge_all-left.new.1.1.0
-    j.judge_all-left.new.1.1.1.0 j.judge_all-left.result)
+    (λ m. JudgedByValue (monitor_view_of m) j.args.counts.now j.args.margins.now j.judge_all-left.new.verdicts
+    j.judge_all-left.new.margins j.judge_all-left.result)
     j.read_monitor-opened.ensures j.judge_all-left.ensures
 
 write-held-requires : tie.Need-write_held-requires
-write-held-requires c κs =
-    let j = c.before.before.before.before in (
-      omega (arith, (start j).requires.0.0),
-      ticks_fit (start j).args.state.now
-          (start j).requires.0 (start j).args.counts.now j.judge_all-left.result (told j).state,
-    )
+write-held-requires c κs = (
+  omega (arith, c.requires.0.0),
+  ticks_fit c.args.state.now c.requires.0 c.args.counts.now c.judge_all-left.result (told c).state,
+)
 
 returns : tie.Need-returns
 returns c =
-    let j = c.before.before.before.before.before.before.before.before.before.before.before in
-    let s = start j in
+    let judged = told c.before.before.before.before.before.before.before in
     record {
-      state = left_written s.args.state.now s.requires.0 s.args.counts.now j.judge_all-left.result (told j).state _ _
+      state = left_written c.args.state.now c.requires.0 c.args.counts.now c.judge_all-left.result judged.state _ _
           c.write_held.ensures c.write_failed.ensures;
-      verdicts = (told j).verdicts;
-      margins_left = (told j).margins_left;
+      verdicts = judged.verdicts;
+      margins_left = judged.margins_left;
     }
 
 pub judge_rest_spec : {M : Type 1} → statement M

@@ -10,10 +10,10 @@ use Rattle.scripts.proofs.judging.verdict_code.Statement.{statement}
 use Rattle.scripts.proofs.judging.verdict_code.Tie as tie
 
 -- The window of each kind of verdict that names one is at most 256.
-many : (k : tie.In-TooMany-2) → k.in-TooMany.window ≤ max_horizon
+many : (k : tie.In-TooMany) → k.in-TooMany.window ≤ max_horizon
 many k = subst NamesWindow k.in-TooMany.is k.requires
 
-few : (k : tie.In-TooFew-2) → k.in-TooFew.window ≤ max_horizon
+few : (k : tie.In-TooFew) → k.in-TooFew.window ≤ max_horizon
 few k = subst NamesWindow k.in-TooFew.is k.requires
 
 abbrev code : Verdict → ℕ
@@ -31,11 +31,11 @@ verdict_code_spec =
     (tie.spec
     (λ c. search rules)
     (λ c. search rules)
-    (λ c. omega (arith, many c.before))
-    (λ c. omega (arith, many c.before))
+    (λ c. omega (arith, many c))
+    (λ c. omega (arith, many c))
     (λ c. search rules)
-    (λ c. omega (arith, few c.before))
-    (λ c. omega (arith, few c.before))
+    (λ c. omega (arith, few c))
+    (λ c. omega (arith, few c))
     (λ c. search rules)
     (λ c. search rules)
     (λ c. search rules)

@@ -32,7 +32,7 @@ abbrev begun : tie.After-add_up → tie.After-no_sums-sums
 begun a = a.before.before
 
 abbrev left : tie.After-add_up → List ℕ
-left a = a.add_up.new.1.0
+left a = a.add_up.new.sums
 
 abbrev lent : tie.After-add_up → List ℕ
 lent a = let n = length (start (begun a)).args.upper.now + 1 in take n (left a ++ drop n (begun a).no_sums-sums.result)
@@ -49,10 +49,10 @@ added s = s.before.before.before.before.before.before.before.before.before
 
 -- The two arrays.
 abbrev ceilings : tie.After-turn_leasts → List ℕ
-ceilings s = s.turn_ceilings.new.1.1.1.0
+ceilings s = s.turn_ceilings.new.ceilings
 
 abbrev leasts : tie.After-turn_leasts → List ℕ
-leasts s = s.turn_leasts.new.1.1.1.0
+leasts s = s.turn_leasts.new.leasts
 
 array-borrow-prefix-sums-2 : tie.Need-slice_bounds-sums-end-2
 array-borrow-prefix-sums-2 c =
@@ -79,7 +79,7 @@ pass-requires c κs =
     let args = (start (begun a)).args in
     let pre = (start (begun a)).requires in
     let kept = a.add_up.ensures.1 (not-false a.add_up.result s.if-not-add_up.false-raw) in (
-      strict_placed args.upper.now args.lower.now args.unlimited args.closed-upper.now args.closed-lower.now
+      strict_placed args.upper.now args.lower.now args.unlimited args.closed_upper.now args.closed_lower.now
           args.ticks.now pre.0 pre.1.0 pre.1.1.0 pre.1.1.1 _ _ s.turn_ceilings.ensures
           s.turn_leasts.ensures (lent a) (sym (lent-long a)),
       (
@@ -94,7 +94,7 @@ returns-2 c =
     let z = begun (added s) in
     let args = (start z).args in
     let pre = (start z).requires in
-    first_pass args.upper.now args.lower.now args.unlimited args.closed-upper.now args.closed-lower.now
+    first_pass args.upper.now args.lower.now args.unlimited args.closed_upper.now args.closed_lower.now
     args.ticks.now pre.0 pre.1.0 pre.1.1.0 pre.1.1.1 _ _ s.turn_ceilings.ensures
     s.turn_leasts.ensures args.counts.now _ c.pass.ensures
 

@@ -73,11 +73,11 @@ loop-again c =
     let grown = c.before.before.before in
     let test = tested grown in
     let turn = test.before in
-    let left = passing_length _ _ _ _ (some turn) turn.loop-i.invariant.2 (placed turn) test.loop-i-test.taken _ grown.grow.result
+    let left = passing_length _ _ _ _ (some turn) turn.loop-i.invariant.2 (placed turn) test.loop-i-test.true _ grown.grow.result
     grown.grow.ensures c.if-not-grow.false-raw in (
-      omega (arith, test.loop-i-test.taken),
+      omega (arith, test.loop-i-test.true),
       left ∙ turn.loop-i.invariant.1,
-      passing_more _ _ _ _ (some turn) turn.loop-i.invariant.2 (placed turn) test.loop-i-test.taken _ grown.grow.result
+      passing_more _ _ _ _ (some turn) turn.loop-i.invariant.2 (placed turn) test.loop-i-test.true _ grown.grow.result
           grown.grow.ensures c.if-not-grow.false-raw _ refl,
     )
 
@@ -125,7 +125,7 @@ pass_spec =
     (λ c. passed (tested c.before.before.before).before)
     (λ c. search rules)
     (λ c. search rules)
-    (λ c. omega (arith, (tested c.before.before.before).loop-i-test.taken))
+    (λ c. omega (arith, (tested c.before.before.before).loop-i-test.true))
     loop-again
     (λ c. search rules)
     (λ c. passed c.before))

@@ -82,12 +82,12 @@ loop-again c =
     let (middle, G, H) = found.ensures.1 (not-false found.result c.if-not-grow_twice.false-raw) in
     let first = on s t.loop-i.sums t.loop-i.i (omega (arith, test)) (placed t) t.loop-i.invariant.3 middle G in
     let P = next-placed s t.loop-i.sums t.loop-i.i (omega (arith, test)) (placed t) t.loop-i.invariant.3 middle G in
-    let second = on s middle (t.loop-i.i + 1) test P first found.new.0 H in (
+    let second = on s middle (t.loop-i.i + 1) test P first found.new.sums H in (
       omega (arith, test),
       found.ensures.0 ∙ t.loop-i.invariant.1,
       later_grown _ _ _ _ _ P (later_grown _ _ _ _ _ (placed t) t.loop-i.invariant.2 G) H,
       subst
-          (PassingOn s.args.ceilings.now s.args.leasts.now s.args.sums.now s.args.counts.now found.new.0)
+          (PassingOn s.args.ceilings.now s.args.leasts.now s.args.sums.now s.args.counts.now found.new.sums)
           (omega arith) second,
     )
 
@@ -106,9 +106,9 @@ returns-6 c xs long K =
     let l = k.if-counts-i.false in
     let G =
     subst
-    (λ r. Grown t.loop-i.sums s.args.ceilings.now s.args.leasts.now (get_or s.args.counts.now t.loop-i.i 0) found.new.0 r)
+    (λ r. Grown t.loop-i.sums s.args.ceilings.now s.args.leasts.now (get_or s.args.counts.now t.loop-i.i 0) found.new.sums r)
     (not-false found.result c.if-not-grow.false-raw) found.ensures in
-    (omega (arith, l), (on s t.loop-i.sums t.loop-i.i l (placed t) t.loop-i.invariant.3 found.new.0 G xs long K).keeps)
+    (omega (arith, l), (on s t.loop-i.sums t.loop-i.i l (placed t) t.loop-i.invariant.3 found.new.sums G xs long K).keeps)
 
 pub pass_on_spec : {M : Type 1} → statement M
 pass_on_spec =

@@ -8,26 +8,24 @@ use Rattle.scripts.proofs.passing.turn_ceilings.Statement.{statement}
 use Rattle.scripts.proofs.passing.turn_ceilings.Tie as tie
 
 abbrev invariant-loop : tie.invariant-loop-i
-invariant-loop upper unlimited closed-upper ceilings₀ h i₀ ceilings i =
-    (i ≤ h) × (length ceilings ≡ length ceilings₀) × Filled (strict_from (strict_ceiling unlimited) upper closed-upper) ceilings₀ ceilings i
+invariant-loop upper unlimited closed_upper ceilings₀ h i₀ ceilings i =
+    (i ≤ h) × (length ceilings ≡ length ceilings₀) × Filled (strict_from (strict_ceiling unlimited) upper closed_upper) ceilings₀ ceilings i
 
 abbrev decreases-loop : tie.decreases-loop-i
-decreases-loop upper unlimited closed-upper ceilings₀ h i₀ ceilings i = h - i
+decreases-loop upper unlimited closed_upper ceilings₀ h i₀ ceilings i = h - i
 
 loop-again : tie.Need-loop-i-preserved invariant-loop decreases-loop
 loop-again c =
-    let turn = c.before.before.before.before in
-    let args = turn.args in (
+    let args = c.args in (
       omega arith,
       search rules,
-      stored turn.loop-i.invariant.2 _ (omega (arith, turn.requires.0))
-          (c.strict_ceiling.ensures ∙ strict_from_lem (strict_ceiling args.unlimited) args.upper.now args.closed-upper.now turn.loop-i.i),
+      stored c.loop-i.invariant.2 _ (omega (arith, c.requires.0))
+          (c.strict_ceiling.ensures ∙ strict_from_lem (strict_ceiling args.unlimited) args.upper.now args.closed_upper.now c.loop-i.i),
     )
 
 returns : tie.Need-returns invariant-loop decreases-loop
 returns c =
-    let end = c.before in
-    strict_all _ _ _ _ _ end.loop-i.i (omega arith) (omega (arith, end.loop-i.invariant.1, end.requires.0)) end.loop-i.invariant.2
+    strict_all _ _ _ _ _ c.loop-i.i (omega arith) (omega (arith, c.loop-i.invariant.1, c.requires.0)) c.loop-i.invariant.2
 
 pub turn_ceilings_spec : {M : Type 1} → statement M
 turn_ceilings_spec =

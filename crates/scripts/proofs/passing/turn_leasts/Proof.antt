@@ -8,26 +8,24 @@ use Rattle.scripts.proofs.passing.turn_leasts.Statement.{statement}
 use Rattle.scripts.proofs.passing.turn_leasts.Tie as tie
 
 abbrev invariant-loop : tie.invariant-loop-i
-invariant-loop lower unlimited closed-lower leasts₀ h i₀ leasts i =
-    (i ≤ h) × (length leasts ≡ length leasts₀) × Filled (strict_from (strict_least unlimited) lower closed-lower) leasts₀ leasts i
+invariant-loop lower unlimited closed_lower leasts₀ h i₀ leasts i =
+    (i ≤ h) × (length leasts ≡ length leasts₀) × Filled (strict_from (strict_least unlimited) lower closed_lower) leasts₀ leasts i
 
 abbrev decreases-loop : tie.decreases-loop-i
-decreases-loop lower unlimited closed-lower leasts₀ h i₀ leasts i = h - i
+decreases-loop lower unlimited closed_lower leasts₀ h i₀ leasts i = h - i
 
 loop-again : tie.Need-loop-i-preserved invariant-loop decreases-loop
 loop-again c =
-    let turn = c.before.before.before.before in
-    let args = turn.args in (
+    let args = c.args in (
       omega arith,
       search rules,
-      stored turn.loop-i.invariant.2 _ (omega (arith, turn.requires.0))
-          (c.strict_least.ensures ∙ strict_from_lem (strict_least args.unlimited) args.lower.now args.closed-lower.now turn.loop-i.i),
+      stored c.loop-i.invariant.2 _ (omega (arith, c.requires.0))
+          (c.strict_least.ensures ∙ strict_from_lem (strict_least args.unlimited) args.lower.now args.closed_lower.now c.loop-i.i),
     )
 
 returns : tie.Need-returns invariant-loop decreases-loop
 returns c =
-    let end = c.before in
-    strict_all _ _ _ _ _ end.loop-i.i (omega arith) (omega (arith, end.loop-i.invariant.1, end.requires.0)) end.loop-i.invariant.2
+    strict_all _ _ _ _ _ c.loop-i.i (omega arith) (omega (arith, c.loop-i.invariant.1, c.requires.0)) c.loop-i.invariant.2
 
 pub turn_leasts_spec : {M : Type 1} → statement M
 turn_leasts_spec =

@@ -14,7 +14,7 @@ raise-requires c κs =
 returns : tie.Need-returns-then-unlimited
 returns c =
     rw c.if-unlimited.true
-    (raised_any _ c.args.upper.now _ _ _ c.requires.0.1 c.raise_none.ensures)
+    (raised_any c.args.raised.now c.args.upper.now _ _ _ c.requires.0.1 c.raise_none.ensures)
 
 returns-2 : tie.Need-returns-else-unlimited
 returns-2 c = rw c.if-unlimited.false c.raise.ensures

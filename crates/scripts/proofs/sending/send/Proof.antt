@@ -1,7 +1,6 @@
 -- `scripts::sending::send` meets its contract: where the sums are kept, they lead to the first limits.
 -- Assumes nothing.
 use Rattle.laws.proofs.Base.{◌-◌, ◌≡◌, ap, ◌∙◌, arith, rules, length, get_or}
-use borrow.Author.Tests.{not-false}
 use Rattle.scripts.proofs.Choosing.{sends_none}
 use Rattle.scripts.proofs.sending.send.Statement.{statement}
 use Rattle.scripts.proofs.sending.send.Tie as tie
@@ -19,8 +18,7 @@ returns c =
 
 narrow-requires : tie.Need-narrow-limits-requires
 narrow-requires c κs =
-    let added = c.before.before.before.before in
-    (added.requires.0, (added.add_up.ensures.0 ∙ added.requires.1.0.0, added.add_up.ensures.1 (not-false _ c.if-not-add_up.false)))
+    (c.requires.0, (c.add_up.ensures.0 ∙ c.requires.1.0.0, c.add_up.ensures.1 c.if-not-add_up.false))
 
 pub send_spec : {M : Type 1} → statement M
 send_spec =

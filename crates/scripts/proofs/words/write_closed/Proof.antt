@@ -1,6 +1,5 @@
 -- `scripts::words::write_closed` meets its contract. Assumes nothing.
 use Rattle.laws.proofs.Base.{sym, ap, ◌∙◌, [], ◌∷◌, ◌++◌, arith, rules, length, length-take-le}
-use Rattle.scripts.specs.Words.{padded}
 use Rattle.scripts.proofs.Opened.{padded-length, closed_written, closed-length}
 use borrow.Author.Rules.{rules}
 use Rattle.scripts.proofs.words.write_closed.Statement.{statement}
@@ -11,8 +10,8 @@ written : tie.Need-returns
 written c =
     let pu = c.write_figures.ensures in
     let pl = c.write_figures-2.ensures in
-    closed_written c.args.words.now c.write_figures.new.0
-    c.write_figures-2.new.0 c.requires.0
+    closed_written c.args.words.now c.write_figures.new.places
+    c.write_figures-2.new.places c.requires.0
     (ap length pu ∙ padded-length c.args.closed_upper.now c.requires.1.0)
     (ap length pl ∙ padded-length c.args.closed_lower.now c.requires.1.1)
     ∙ (λ i. pu i ++ (pl i ++ (0 ∷ [])))

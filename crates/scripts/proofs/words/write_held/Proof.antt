@@ -1,11 +1,10 @@
 -- `scripts::words::write_held` meets its contract: the number first, and then the ticks behind it. Assumes nothing.
-use Rattle.laws.proofs.Base.{◌≤◌, ◌≡◌, sym, ap, ◌∙◌, arith, rules, length, length-take-le, ℕ, List}
+use Rattle.laws.proofs.Base.{◌≤◌, ◌≡◌, sym, ap, ◌∙◌, arith, rules, length, length-take-le}
 use Rattle.history.specs.States.{view_of}
 use Rattle.history.proofs.Histories.{entries-take, held_seen}
 use Rattle.laws.specs.Writing.{over}
 use borrow.Rule.Slice.PartMut.{mid_of, put_mid}
 use lib.ListN.{set}
-use Rattle.scripts.specs.Words.{with_held}
 use Rattle.scripts.proofs.Worded.{held_put, held-length}
 use borrow.Author.Rules.{rules}
 use Rattle.scripts.proofs.words.write_held.Statement.{statement}
@@ -28,7 +27,7 @@ written c =
     let h = s.args.history in
     let is = entries-take h.held h.ticks (room s) in
     let n = held_seen h in
-    ap (λ k. put_mid 515 256 (set s.args.words.now 514 k) c.copy.new.1.0) (sym n)
+    ap (λ k. put_mid 515 256 (set s.args.words.now 514 k) c.copy.new.to) (sym n)
     ∙ held_put s.args.words.now (view_of h).held 256 (omega (arith, s.requires.0)) (few s) _
     (c.copy.ensures.entries ∙ (λ i. over (sym is i) (mid_of 515 256 (set s.args.words.now 514 (sym n i)))))
 

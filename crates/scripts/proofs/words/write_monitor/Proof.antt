@@ -30,7 +30,7 @@ lower_room : (c : tie.After-figures_shown-n) → c.figures_shown-n.result ≤ le
     c.args.opened.closed_lower
 lower_room c = let s = c.before.before.before.before in room c s.args.opened.closed_lower (lowers s)
 
-front-there : (c : tie.After-write_pair) → length c.write_pair.new.0 ≡ 771
+front-there : (c : tie.After-write_pair) → length c.write_pair.new.words ≡ 771
 front-there c =
     ap length c.write_pair.ensures ∙ opened-length c.args.upper.now c.args.lower.now c.args.unlimited c.requires.1.0
     c.requires.1.1
@@ -61,7 +61,7 @@ write-closed-requires : tie.Need-write_closed-requires
 write-closed-requires c κs =
     let s = c.before.before.before.before.before.before.before.before.before.before.before.before.before in
     let f = c.before.before.before.before.before.before.before.before.before in
-    let ps = c.write_pair.new.0 in (
+    let ps = c.write_pair.new.words in (
       rest_there s.args.words.now ps s.requires.0 (front-there c.before.before.before.before.before),
       (
         omega (arith, length-take-le f.figures_shown-n.result s.args.opened.closed_upper (upper_room f), upper_room f, uppers s),
@@ -73,8 +73,8 @@ returns : tie.Need-returns
 returns c =
     let f = c.before.before.before.before.before.before.before.before.before.before.before.before in
     let told = c.write_closed.ensures in
-    monitor_written c.args.words.now c.write_pair.new.0
-    c.write_closed.new.0 c.requires.0 (front-there c.before.before.before.before.before.before.before.before)
+    monitor_written c.args.words.now c.write_pair.new.words
+    c.write_closed.new.words c.requires.0 (front-there c.before.before.before.before.before.before.before.before)
     ∙ (λ i. c.write_pair.ensures i ++ (told
     ∙ (λ j. padded (sym (entries-take _ c.args.opened.closed_upper (upper_room f)) j)
     ++ (padded (sym (entries-take _ c.args.opened.closed_lower (lower_room f)) j) ++ (0 ∷ [])))

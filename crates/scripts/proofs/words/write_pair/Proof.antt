@@ -1,10 +1,10 @@
 -- `scripts::words::write_pair` meets its contract: one field behind the other. Assumes nothing.
-use Rattle.laws.proofs.Base.{ℕ, ◌≡◌, sym, ap, ◌∙◌, List, ◌∷◌, ◌++◌, arith, rules, length, length-take-le, set, take, replicate}
+use Rattle.laws.proofs.Base.{ℕ, ◌≤◌, ◌≡◌, sym, ap, ◌∙◌, List, ◌∷◌, ◌++◌, arith, rules, length, length-take-le, set, take, replicate}
 use Rattle.laws.proofs.Base.{length-replicate}
 use Rattle.scripts.specs.Words.{padded}
 use lib.ListN.{length-take}
 use Rattle.scripts.proofs.Worded.{part_length}
-use Rattle.scripts.proofs.Opened.{lowers, numbers_length, uppers-length, lowers-length, pair-length, pair_written, opened_is}
+use Rattle.scripts.proofs.Opened.{lowers, numbers_length, uppers-length, lowers-length, pair_written, opened_is}
 use Rattle.scripts.proofs.Opened.{padded-length, shown_few, opened-length}
 use borrow.Author.Rules.{rules}
 use Rattle.scripts.proofs.words.write_pair.Statement.{statement}
@@ -14,45 +14,38 @@ use Rattle.scripts.proofs.words.fill.Reads as fill_reads
 use Rattle.scripts.proofs.words.mark_word.Reads as mark_word_reads
 use Rattle.scripts.proofs.words.write_figures.Reads as write_figures_reads
 
-two : (s : tie.Start) (m : ℕ) → length (set (set s.args.words.now 0 (length s.args.upper.now)) 1 m) ≡ 771
-two s m = numbers_length s.args.words.now (length s.args.upper.now) m s.requires.0
-
 -- The figures that are written, and how many words they take.
-upper-there : (c : tie.After-write_figures) → length c.write_figures.new.0 ≡ 256
-upper-there c =
-    ap length c.write_figures.ensures
-    ∙ padded-length (take c.figures_shown-n.result c.args.upper.now)
-    (omega (arith, length-take c.figures_shown-n.result c.args.upper.now, c.requires.1.0))
+upper-there : (n : ℕ) (us places : List ℕ) → length us ≤ 256 → places ≡ padded (take n us) → length places ≡ 256
+upper-there n us places few told = ap length told ∙ padded-length (take n us) (omega (arith, length-take n us, few))
 
-lower-there : (c : tie.After-write_figures-2) → length c.write_figures-2.new.0 ≡ 256
-lower-there c =
-    ap length
-    c.write_figures-2.ensures ∙ padded-length c.args.lower.now c.requires.1.1
+lower-there : (ls places : List ℕ) → length ls ≤ 256 → places ≡ padded ls → length places ≡ 256
+lower-there ls places few told = ap length told ∙ padded-length ls few
 
 written : tie.Need-returns
 written c =
     let us = c.args.upper.now in
     let ls = c.args.lower.now in
     let b = c.args.unlimited in
-    let one = c.before.before.before.before.before.before.before.before.before.before in
-    let two = c.before.before.before.before.before.before in
+    let one = upper-there c.figures_shown-n.result us c.write_figures.new.places c.requires.1.0 c.write_figures.ensures in
+    let two = lower-there ls c.write_figures-2.new.places c.requires.1.1 c.write_figures-2.ensures in
     let m = c.mark_word in
     let z = c.fill in
     let n = c.figures_shown-n.ensures in
-    let long = lowers-length c.args.words.now (length us) m.result c.requires.0 one.write_figures.new.0 (upper-there one)
-    two.write_figures-2.new.0 (lower-there two) in
-    let zeros : z.new.0 ≡ replicate 257 0 = z.ensures ∙ ap (λ k. replicate k 0)
-    (part_length 514 257 (lowers c.args.words.now (length us) m.result c.requires.0 one.write_figures.new.0 (upper-there one)
-    two.write_figures-2.new.0 (lower-there two)) (omega (arith, long))) in
-    pair_written c.args.words.now (length us) m.result c.requires.0 one.write_figures.new.0 (upper-there one)
-    two.write_figures-2.new.0 (lower-there two) z.new.0
+    let long = lowers-length c.args.words.now (length us) m.result c.requires.0 c.write_figures.new.places one
+    c.write_figures-2.new.places two in
+    let zeros : z.new.list ≡ replicate 257 0 = z.ensures ∙ ap (λ k. replicate k 0)
+    (part_length 514 257 (lowers c.args.words.now (length us) m.result c.requires.0 c.write_figures.new.places one
+    c.write_figures-2.new.places two) (omega (arith, long))) in
+    pair_written c.args.words.now (length us) m.result c.requires.0 c.write_figures.new.places one
+    c.write_figures-2.new.places two z.new.list
     (ap length zeros ∙ length-replicate {A = ℕ} 257 0)
-    ∙ (λ i. length us ∷ m.ensures i ∷ ((one.write_figures.ensures ∙ ap (λ k. padded (take k us)) n) i ++
-    (two.write_figures-2.ensures i ++ zeros i)))
+    ∙ (λ i. length us ∷ m.ensures i ∷ ((c.write_figures.ensures ∙ ap (λ k. padded (take k us)) n) i ++
+    (c.write_figures-2.ensures i ++ zeros i)))
     ∙ opened_is us ls b
 
 part-write-figures-end : tie.Need-slice_bounds-write_figures-end
-part-write-figures-end c = omega (arith, two c.before.before.before.before.before c.mark_word.result)
+part-write-figures-end c =
+    omega (arith, numbers_length c.args.words.now (length c.args.upper.now) c.mark_word.result c.requires.0)
 
 slice-aggregate-write-figures : tie.Need-slice_bounds-write_figures-end-2
 slice-aggregate-write-figures c =
@@ -60,10 +53,10 @@ slice-aggregate-write-figures c =
     c.args.unlimited _ c.figures_shown-n.ensures))
 
 write-figures-requires : tie.Need-write_figures-requires
-write-figures-requires c κs = let s = c.before.before.before.before.before.before.before in (
-  part_length 2 256 (set (set s.args.words.now 0 (length s.args.upper.now)) 1 c.mark_word.result)
-      (omega (arith, two s c.mark_word.result)),
-  omega (arith, length-take c.figures_shown-n.result s.args.upper.now, s.requires.1.0),
+write-figures-requires c κs = (
+  part_length 2 256 (set (set c.args.words.now 0 (length c.args.upper.now)) 1 c.mark_word.result)
+      (omega (arith, numbers_length c.args.words.now (length c.args.upper.now) c.mark_word.result c.requires.0)),
+  omega (arith, length-take c.figures_shown-n.result c.args.upper.now, c.requires.1.0),
 )
 
 part-write-figures-end-2 : tie.Need-slice_bounds-write_figures-end-3
@@ -72,7 +65,7 @@ part-write-figures-end-2 c =
       arith,
       uppers-length c.args.words.now (length c.args.upper.now) c.mark_word.result
           c.requires.0
-          c.write_figures.new.0 (upper-there c.before.before),
+          c.write_figures.new.places (upper-there c.figures_shown-n.result c.args.upper.now _ c.requires.1.0 c.write_figures.ensures),
     )
 
 part-fill-end : tie.Need-slice_bounds-fill-end
@@ -81,9 +74,8 @@ part-fill-end c =
       arith,
       lowers-length c.args.words.now (length c.args.upper.now)
           c.mark_word.result c.requires.0
-          c.write_figures.new.0
-          (upper-there c.before.before.before.before.before.before) c.write_figures-2.new.0
-          (lower-there c.before.before),
+          c.write_figures.new.places (upper-there c.figures_shown-n.result c.args.upper.now _ c.requires.1.0 c.write_figures.ensures)
+          c.write_figures-2.new.places (lower-there _ _ c.requires.1.1 c.write_figures-2.ensures),
     )
 
 same_length : tie.Need-shape_of-words
