@@ -1,5 +1,5 @@
 -- What a step's answer leads to, by its number. Assumes nothing.
-use Rattle.laws.proofs.Base.{ℕ, ◌≤◌, ◌<◌, ◌≡◌, sym, ap, ◌∙◌, Bool, cond, List, [], ⊎_elim, arith}
+use Rattle.laws.proofs.Base.{ℕ, ◌≤◌, ◌<◌, ◌≡◌, sym, ap, ◌∙◌, Bool, cond, List, arith}
 use Rattle.laws.proofs.Base.{eqb, length, take, replicate, length-take-le}
 use Rattle.curves.specs.Pairs.{Pair, pair_of}
 use Rattle.curves.specs.Unlimited.{AnyPair, with_mark}

@@ -41,40 +41,39 @@ read-records-requires c κs =
     (omega arith, none)
 
 -- What the records after it were found to be.
+abbrev held : tie.After-read_records-scan → Table
+held k =
+    let made = k.read_records-scan in table_of made.result.horizon made.result.smallest made.new.leasts made.new.mosts
+
 abbrev line : tie.After-read_records-scan → tie.Else-not-is_header
 line k = k.before.before.before.before.before
 
-abbrev held : tie.After-read_records-scan → Table
-held k =
-    let made = k.read_records_lem in table_of made.result.horizon made.result.smallest made.new.1.0 made.new.1.1.0
-
-of-records : (k : tie.After-read_records-scan) (f : Fault) → k.read_records_lem.result.fault ≡ f → ScannedAs (later (text (line k))) (held k) f
-of-records k f e = scanned _ (asked (line k)) _ _ k.read_records_lem.result f e k.read_records_lem.ensures
+of-records : (k : tie.After-read_records-scan) (f : Fault) → k.read_records-scan.result.fault ≡ f → ScannedAs (later k.args.text.now) (held k) f
+of-records k f e = scanned _ (asked (line k)) _ _ k.read_records-scan.result f e k.read_records-scan.ensures
 
 deliver-requires : tie.Need-deliver-requires
 deliver-requires c κs =
-    let k = c.before.before.before.before.before.before.before.before in
+    let k = c.before.before.before.before.before.before.before in
     holds_sized (held k) _ (of-records k Sound c.in-Sound.is).1
 
 returns-3 : tie.Need-returns-in-Sound
 returns-3 c =
     let d = c.before.before.before.before in
-    let m = d.before.before.before.before.before in
-    let k = m.before.before.before.before in
-    let sound = of-records k Sound m.in-Sound.is in
-    delivered_is _ _ (asked (line k)) (held k) sound d.deliver.result _ d.deliver.ensures
+    let k = d.before.before.before.before.before.before.before.before in
+    let sound = of-records k Sound c.in-Sound.is in
+    delivered_is _ _ (asked (line k)) (held k) sound c.deliver.result _ c.deliver.ensures
 
 returns-4 : tie.Need-returns-in-Malformed
 returns-4 c =
-    let k = c.before.before.before.before in no_record _ _ (asked (line k)) 7 (of-records k Malformed c.in-Malformed.is)
+    let k = c.before.before.before in no_record _ _ (asked (line k)) 7 (of-records k Malformed c.in-Malformed.is)
 
 returns-5 : tie.Need-returns-in-OutOfRange
 returns-5 c =
-    let k = c.before.before.before.before in no_record _ _ (asked (line k)) 8 (of-records k OutOfRange c.in-OutOfRange.is)
+    let k = c.before.before.before in no_record _ _ (asked (line k)) 8 (of-records k OutOfRange c.in-OutOfRange.is)
 
 returns-6 : tie.Need-returns-in-Repeated
 returns-6 c =
-    let k = c.before.before.before.before in no_record _ _ (asked (line k)) 9 (of-records k Repeated c.in-Repeated.is)
+    let k = c.before.before.before in no_record _ _ (asked (line k)) 9 (of-records k Repeated c.in-Repeated.is)
 
 pub read_spec : {M : Type 1} → statement M
 read_spec =

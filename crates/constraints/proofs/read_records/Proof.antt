@@ -26,23 +26,21 @@ loop-holds : tie.Need-loop-at-init invariant-loop decreases-loop
 loop-holds c = (search rules, search rules, reached_none _ _ c.requires.1)
 
 -- The text, and the constraint that the record of a turn was found to be.
-abbrev text : tie.At-loop-at invariant-loop decreases-loop → Bytes
-text h = h.args.text.now
-
-abbrev head : tie.In-Spells invariant-loop decreases-loop → tie.At-loop-at invariant-loop decreases-loop
-head k = k.before.before.before.before.before.before
+abbrev text : tie.In-Spells invariant-loop decreases-loop → Bytes
+text k = k.args.text.now
 
 abbrev IsRecord : tie.In-Spells invariant-loop decreases-loop → Type 0
 IsRecord k =
-    let (w, (l, (g, (m, (n, _))))) = k.window-1.given.0 in
-    result (spelt (constraint w l (most_if g m)) m n) ≡ recording (record_at (text (head k)) (head k).loop-at.at)
+    let s = k.in-Spells in
+    result (spelt (constraint s.window s.least (most_if s.capped s.most)) s.most s.length)
+    ≡ recording (record_at (text k) k.loop-at.at)
 
 found : (k : tie.In-Spells invariant-loop decreases-loop) → IsRecord k
 found k = sym (ap record_reply k.in-Spells.is) ∙ k.read_record.ensures
 
 ranged : (k : tie.In-Spells invariant-loop decreases-loop)
-    → let (w, (l, (g, (m, _)))) = k.window-1.given.0 in InRange (constraint w l (most_if g m))
-ranged k = let (w, (l, (g, (m, (n, _))))) = k.window-1.given.0 in found_in_range _ w l g m n (found k)
+    → InRange (constraint k.in-Spells.window k.in-Spells.least (most_if k.in-Spells.capped k.in-Spells.most))
+ranged k = let s = k.in-Spells in found_in_range _ s.window s.least s.capped s.most s.length (found k)
 
 sub-if1 : tie.Need-overflow_sub-window invariant-loop decreases-loop
 sub-if1 c = (ranged c).some
@@ -52,24 +50,28 @@ abbrev window : tie.In-Spells invariant-loop decreases-loop → ℕ
 window k = k.in-Spells.window
 
 within : (k : tie.In-Spells invariant-loop decreases-loop)
-    → (window k - 1 < length (head k).loop-at.leasts) × (window k - 1 < length (head k).loop-at.mosts)
+    → (window k - 1 < length k.loop-at.leasts) × (window k - 1 < length k.loop-at.mosts)
 within k =
-    let sizes = holds_sized _ _ (head k).loop-at.invariant.2.holds in
+    let sizes = holds_sized _ _ k.loop-at.invariant.2.holds in
     (omega (arith, (ranged k).some, (ranged k).window, sizes.2), omega (arith, (ranged k).some, (ranged k).window, sizes.3))
 
 returns : tie.Need-returns-then-mosts-window-ne-UNNAMED invariant-loop decreases-loop
 returns c =
     let k = c.before.before.before in
-    let h = head k in
-    let (w, (l, (g, (m, (n, _))))) = k.window-1.given.0 in
+    let s = c.in-Spells in
     stopped_as _ _ _ c.stopped.result Repeated c.stopped.ensures
-    (again_at (text h) _ _ h.loop-at.at (omega arith) h.loop-at.invariant.2 w l g m n (found k) c.if-mosts-window-ne-UNNAMED.true)
+    (again_at (text k) _ _ c.loop-at.at (omega arith) c.loop-at.invariant.2 s.window s.least s.capped s.most s.length
+    (found k) c.if-mosts-window-ne-UNNAMED.true)
 
 add-at-2 : tie.Need-overflow_add-at-in-Spells invariant-loop decreases-loop
 add-at-2 c =
     let k = c.before.before.before.before.before in
-    let (w, (l, (g, (m, (n, _))))) = k.window-1.given.0 in
-    omega (arith, found_length _ w l g m n (found k), record_fits (text (head k)) (head k).loop-at.at (omega arith))
+    let s = c.in-Spells in
+    omega (
+      arith,
+      found_length _ s.window s.least s.capped s.most s.length (found k),
+      record_fits (text k) c.loop-at.at (omega arith),
+    )
 
 add_at : tie.Need-overflow_add-at invariant-loop decreases-loop
 add_at c = omega (arith, add-at-2 c)
@@ -77,31 +79,29 @@ add_at c = omega (arith, add-at-2 c)
 loop-again : tie.Need-loop-at-preserved invariant-loop decreases-loop
 loop-again c =
     let k = c.before.before.before.before.before in
-    let h = head k in
-    let (w, (l, (g, (m, (n, _))))) = k.window-1.given.0 in (
+    let s = c.in-Spells in (
       search rules,
       search rules,
       rw (c.smaller-smallest.ensures, c.larger-horizon.ensures, c.most_or_none-m.ensures)
-          (onward_at (text h) _ _ h.loop-at.at (omega arith) h.loop-at.invariant.2 w l g m n (found k) c.if-mosts-window-ne-UNNAMED.false),
+          (onward_at (text k) _ _ c.loop-at.at (omega arith) c.loop-at.invariant.2 s.window s.least s.capped s.most s.length
+          (found k) c.if-mosts-window-ne-UNNAMED.false),
     )
 
 returns-2 : tie.Need-returns-in-Malformed invariant-loop decreases-loop
 returns-2 c =
-    let h = c.before.before.before.before.before.before in
     stopped_as _ _ _ c.stopped-in-Malformed.result Malformed c.stopped-in-Malformed.ensures
-    (refused_at (text h) _ _ h.loop-at.at (omega arith) h.loop-at.invariant.2 7
+    (refused_at c.args.text.now _ _ c.loop-at.at (omega arith) c.loop-at.invariant.2 7
     (sym (ap record_reply c.in-Malformed.is) ∙ c.read_record.ensures))
 
 returns-3 : tie.Need-returns-in-OutOfRange invariant-loop decreases-loop
 returns-3 c =
-    let h = c.before.before.before.before.before.before in
     stopped_as _ _ _ c.stopped-in-OutOfRange.result OutOfRange c.stopped-in-OutOfRange.ensures
-    (refused_at (text h) _ _ h.loop-at.at (omega arith) h.loop-at.invariant.2 8
+    (refused_at c.args.text.now _ _ c.loop-at.at (omega arith) c.loop-at.invariant.2 8
     (sym (ap record_reply c.in-OutOfRange.is) ∙ c.read_record.ensures))
 
 returns-4 : tie.Need-returns invariant-loop decreases-loop
 returns-4 c =
-    let h = c.before in reached_end (text h) _ _ h.loop-at.at (omega arith) h.loop-at.invariant.2
+    reached_end c.args.text.now _ _ c.loop-at.at (omega arith) c.loop-at.invariant.2
 
 pub read_records_spec : {M : Type 1} → statement M
 read_records_spec =

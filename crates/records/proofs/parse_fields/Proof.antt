@@ -14,10 +14,9 @@ returns-2 c = λ h. subst (Numbered _) c.in_default-parse_number.is c.parse_numb
 
 returns-3 : tie.Need-returns-then-most-lt1
 returns-3 c =
-    let l = c.before.before in
     figured_short _ _ _ _ _
-    (subst (Numbered _) l.in-Value.is l.parse_number.ensures)
-    (subst (Numbered _) l.in-Value-parse_number.is l.parse_number-2.ensures)
+    (subst (Numbered _) c.in-Value.is c.parse_number.ensures)
+    (subst (Numbered _) c.in-Value-parse_number.is c.parse_number-2.ensures)
     _ c.if-most-lt1.true c.check_range.result c.check_range.ensures
 
 returns-4 : tie.Need-returns-in_default-parse_number-2
@@ -28,13 +27,11 @@ returns-4 c =
 
 returns-5 : tie.Need-returns
 returns-5 c =
-    let m = c.before in
-    let l = m.before.before.before.before.before in
     figured _ _ _ _ _
-    (subst (Numbered _) l.in-Value.is l.parse_number.ensures)
-    (subst (Numbered _) l.in-Value-parse_number.is l.parse_number-2.ensures)
-    _ _ m.if-most-lt1.false
-    (subst (Numbered _) m.in-Value-parse_number-2.is m.parse_number-3.ensures)
+    (subst (Numbered _) c.in-Value.is c.parse_number.ensures)
+    (subst (Numbered _) c.in-Value-parse_number.is c.parse_number-2.ensures)
+    _ _ c.if-most-lt1.false
+    (subst (Numbered _) c.in-Value-parse_number-2.is c.parse_number-3.ensures)
     c.check_range-2.result c.check_range-2.ensures
 
 pub parse_fields_spec : {M : Type 1} → statement M

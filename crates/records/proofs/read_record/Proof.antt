@@ -52,7 +52,7 @@ whole d =
     let e = above (last d) in
     omega (
       arith,
-      bytes_more (text e) (first e) e.before.before.find-field.ensures (comma e),
+      bytes_more (text e) (first e) e.find_field-window.ensures (comma e),
       bytes_more (rest e) (second (last d)) (last d).find_field-least.ensures (comma-2 (last d)),
       bytes_one _ _ d.find_field-most.ensures (no-comma d),
     )

@@ -17,7 +17,7 @@ told : (k : tie.After-ask) (a : Asked) → k.ask.result ≡ a → Found (pair k)
 told k a e = subst (Found (pair k)) e (found (pair k) k.ask.result k.ask.ensures)
 
 returns : tie.Need-returns-in-Passes
-returns c = c.written.ensures ∙ sym (written_is _ (told c.before.before.before _ c.in-Passes.is))
+returns c = c.written.ensures ∙ sym (written_is _ (told c.before.before _ c.in-Passes.is))
 
 pub render_spec : {M : Type 1} → statement M
 render_spec =
@@ -25,7 +25,7 @@ render_spec =
     (tie.spec
     (λ c κs. search rules)
     (λ c. search rules)
-    (λ c κs. told c.before.before _ c.in-Passes.is)
+    (λ c κs. told c.before _ c.in-Passes.is)
     (λ c. search rules)
     (λ c κs. search rules)
     (λ c. search rules)
@@ -33,6 +33,6 @@ render_spec =
     (λ c. search rules)
     (λ c κs. search rules)
     returns
-    (λ c. IsRefused-as _ _ _ c.refused.ensures (told c.before.before.before _ c.in-UpperLength.is))
-    (λ c. IsRefused-as _ _ _ c.refused-in-LowerLength.ensures (told c.before.before.before _ c.in-LowerLength.is))
-    (λ c. IsRefused-as _ _ _ c.refused-in-FigureLimit.ensures (told c.before.before.before _ c.in-FigureLimit.is)))
+    (λ c. IsRefused-as _ _ _ c.refused.ensures (told c.before.before _ c.in-UpperLength.is))
+    (λ c. IsRefused-as _ _ _ c.refused-in-LowerLength.ensures (told c.before.before _ c.in-LowerLength.is))
+    (λ c. IsRefused-as _ _ _ c.refused-in-FigureLimit.ensures (told c.before.before _ c.in-FigureLimit.is)))

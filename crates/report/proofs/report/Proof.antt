@@ -16,9 +16,8 @@ report-reading-requires c κs =
 returns : tie.Need-returns
 unfolding output
 returns c =
-    let k = c.before.before.before.before.before in
-    into_zeros (reading k.args.text.now) (λ a. reported (after_reading a)) _ _ _ _
-    k.zeros-upper.ensures k.zeros-lower.ensures k.read-reading.ensures c.report_reading.ensures
+    into_zeros (reading c.args.text.now) (λ a. reported (after_reading a)) _ _ _ _
+    c.zeros-upper.ensures c.zeros-lower.ensures c.read-reading.ensures c.report_reading.ensures
 
 pub report_spec : {M : Type 1} → statement M
 report_spec =

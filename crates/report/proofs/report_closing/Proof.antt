@@ -18,9 +18,8 @@ slice-aggregate-report-closure-2 c =
 
 returns-2 : tie.Need-returns
 returns-2 c =
-    let m = c.before.before.before in
-    next_told _ _ _ _ m.closing_number-number.ensures m.if-number-gt0.false
-    (mark_told _ _ _ _ _ m.closing_mark-unlimited.ensures c.report_closure.ensures)
+    next_told _ _ _ _ c.closing_number-number.ensures c.if-number-gt0.false
+    (mark_told _ _ _ _ _ c.closing_mark-unlimited.ensures c.report_closure.ensures)
 
 pub report_closing_spec : {M : Type 1} → statement M
 report_closing_spec =

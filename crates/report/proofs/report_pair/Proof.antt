@@ -10,11 +10,10 @@ use Rattle.report.proofs.report_pair.Tie as tie
 
 returns : tie.Need-returns
 returns c =
-    let k = c.before.before.before.before.before in
-    let z = k.before.before.before in
-    into_zeros (closing (with_mark z.args.upper.now z.args.lower.now z.args.unlimited))
-    (λ a. reported (after_closing (length z.args.upper.now) a)) _ _ _ _
-    z.zeros-closed_upper.ensures z.zeros-closed_lower.ensures k.close-closing.ensures c.report_closing.ensures
+    let args = c.args in
+    into_zeros (closing (with_mark args.upper.now args.lower.now args.unlimited))
+    (λ a. reported (after_closing (length args.upper.now) a)) _ _ _ _
+    c.zeros-closed_upper.ensures c.zeros-closed_lower.ensures c.close-closing.ensures c.report_closing.ensures
 
 pub report_pair_spec : {M : Type 1} → statement M
 report_pair_spec =

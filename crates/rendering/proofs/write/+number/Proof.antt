@@ -22,8 +22,8 @@ number_at t = and 1 number-kinds.ps (is 1 number-kinds.ps μ-number t) number.Pr
 abbrev number-below : ℕ → In 1 number-kinds.ps
 number-below t = and 1 number-kinds.ps (falls 1 number-kinds.ps ◌<◌ μ-number t) number.Pre
 
-pub +number-spec : {M : Type 1} → statement M
-+number-spec = close μ-number λ t. number-lts.spec (
+pub +number_spec : {M : Type 1} → statement M
++number_spec = close μ-number λ t. number-lts.spec (
   digit-reads.Asked,
   digit-reads.Learnt,
   number-below t,
@@ -31,12 +31,10 @@ pub +number-spec : {M : Type 1} → statement M
 )
     (number_at t)
     number.Post
-    (λ c κs. omega (arith, decimal_some c.before.before.before.args.n))
+    (λ c κs. omega (arith, decimal_some c.args.n))
     (λ c. search rules)
-    (λ c. rw (decimal_small c.before.before.before.before.before.before.args.n (omega arith)) c.before.before.digit.ensures)
-    (λ c κs. omega (arith, tenth_shorter c.before.before.before.args.n (omega arith)))
-    (λ c κs. omega (arith, tenth_shorter c.before.before.before.before.before.before.before.args.n (omega arith)))
+    (λ c. rw (decimal_small c.args.n (omega arith)) c.digit.ensures)
+    (λ c κs. omega (arith, tenth_shorter c.args.n (omega arith)))
+    (λ c κs. omega (arith, tenth_shorter c.args.n (omega arith)))
     (λ c. search rules)
-    (λ c.
-    rw (decimal_step c.before.before.before.before.before.before.before.before.before.before.args.n (omega arith))
-    (wrote_more c.before.before.before.before.before.before.number.ensures c.before.before.digit2.ensures))
+    (λ c. rw (decimal_step c.args.n (omega arith)) (wrote_more c.number-last.ensures c.digit-2.ensures))
