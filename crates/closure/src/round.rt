@@ -20,7 +20,7 @@ const ROW: usize = 264;
 
 // Puts a round of the pair of `upper` and `lower` into `new_upper` and `new_lower`. Ceilings plus 2^25, and 2^25 less the leasts, are
 // tightened alike: the better figure is the smaller, and a difference is a sum. Four passes, `convolve` and `deconvolve` of either curve;
-// `upper_is` and `lower-is` (proofs/Tightening) are the law that ties them to the round.
+// `upper_is` and `lower_is` (proofs/Tightening) are the law that ties them to the round.
 pub(crate) fn compute(upper: &[u32], lower: &[u32], new_upper: &mut [u32], new_lower: &mut [u32])
     requires { Ready (pair_of upper.now lower.now) (pair_of new_upper.old new_lower.old) }
     ensures { pair_of new_upper.new new_lower.new
