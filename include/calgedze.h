@@ -1,6 +1,6 @@
 /*
  * Calgedze for C and for whatever calls C: close a pair of arrival curves, read a pair from constraint text and write it, report a text's
- * closed curves, judge a stream of counts or try one first, generate one. Link libexports.a, which `rt staticlib exports` writes.
+ * closed curves, judge a stream of counts or try one first, generate one. Link libexports.a, which tests/library.sh makes.
  *
  * Every call ends, whatever the lengths and contents of its lists. A list is a pointer and a number of entries, fewer than 2^63, so that
  * a number that counts entries is never negative, as a refusal is; the pointer is never null, not even for no entries, and aligned for its
@@ -20,7 +20,7 @@
  *   calgedze_report                                     in the text that it writes
  *
  * Threads: the library has no state of its own. Calls on different lists may run at the same time; two calls that share a list, one of
- * which writes it, must not. Stack: a call takes at most 64 KiB, measured on x86-64 Linux (tests/stack.c; 33,648 bytes was the most).
+ * which writes it, must not. Stack: a call takes at most 64 KiB, measured on x86-64 Linux (tests/stack.c; 39,288 bytes was the most).
  */
 #ifndef CALGEDZE_H
 #define CALGEDZE_H

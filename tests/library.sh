@@ -1,5 +1,5 @@
-# Sourced by the scripts that link the library: it is proved, and compiled anew only if it was proved since it was last compiled.
-rt check exports
-if ! [ target/staticlib/libexports.a -nt target/stamp/exports ]; then
-    rt staticlib exports
-fi
+# Sourced by the scripts that link the library: what changed of it since the last time is proved and compiled anew, and it is put where they
+# and the examples look for it.
+(cd crates/exports_c && rt lib)
+mkdir -p target/staticlib
+cp crates/exports_c/out/libexports_c.a target/staticlib/libexports.a

@@ -37,8 +37,7 @@ const MINUS_TWO: u64 = 18_446_744_073_709_551_614;
 const MINUS_FOUR: u64 = 18_446_744_073_709_551_612;
 
 // `closure::close`. Here and below any number but 0 says that the pair has no ceilings.
-#[unsafe(no_mangle)]
-pub extern "C" fn calgedze_close(
+pub fn calgedze_close(
     upper: &[u32],
     lower: &[u32],
     unlimited: u32,
@@ -74,8 +73,7 @@ fn mark_bit(unlimited: bool) -> u64
 }
 
 // `constraints::read`.
-#[unsafe(no_mangle)]
-pub extern "C" fn calgedze_read(text: &[u8], upper: &mut [u32], lower: &mut [u32]) -> u64
+pub fn calgedze_read(text: &[u8], upper: &mut [u32], lower: &mut [u32]) -> u64
     ensures { returned result (pair_of upper.new lower.new)
         ≡ reading_returned (reading text.now (pair_of upper.old lower.old)) }
 {
@@ -99,8 +97,7 @@ fn reading_answer(reading: Reading) -> u64
 }
 
 // `report::report`, as much of it as there is room for, and how long all of it is.
-#[unsafe(no_mangle)]
-pub extern "C" fn calgedze_report(text: &[u8], output: &mut [u8]) -> usize
+pub fn calgedze_report(text: &[u8], output: &mut [u8]) -> usize
     ensures { report_returned result output.new ≡ report_into (report.output text.now) output.old }
 {
     let report = report::report(text);
@@ -125,13 +122,7 @@ fn copy_bytes(from: &[u8], to: &mut [u8])
 }
 
 // `rendering::render`, as much of the text as there is room for, and how long all of it is; or the refusal's number with a minus sign.
-#[unsafe(no_mangle)]
-pub extern "C" fn calgedze_render(
-    upper: &[u32],
-    lower: &[u32],
-    unlimited: u32,
-    output: &mut [u8],
-) -> u64
+pub fn calgedze_render(upper: &[u32], lower: &[u32], unlimited: u32, output: &mut [u8]) -> u64
     ensures { report_returned result output.new
         ≡ rendered_into (rendering (with_mark upper.now lower.now (mark_from unlimited))) output.old }
 {
@@ -156,13 +147,7 @@ fn rendering_number(answer: Rendering, n: usize) -> u64
 }
 
 // `scripts::open_monitor`.
-#[unsafe(no_mangle)]
-pub extern "C" fn calgedze_monitor_open(
-    upper: &[u32],
-    lower: &[u32],
-    unlimited: u32,
-    state: &mut [u32],
-) -> u32
+pub fn calgedze_monitor_open(upper: &[u32], lower: &[u32], unlimited: u32, state: &mut [u32]) -> u32
     ensures { opened result state.new
         ≡ monitor_opened (with_mark upper.now lower.now (mark_from unlimited)) state.old }
 {
@@ -170,8 +155,7 @@ pub extern "C" fn calgedze_monitor_open(
 }
 
 // `scripts::judge`.
-#[unsafe(no_mangle)]
-pub extern "C" fn calgedze_monitor_run(
+pub fn calgedze_monitor_run(
     state: &mut [u32],
     counts: &[u32],
     verdicts: &mut [u32],
@@ -184,8 +168,7 @@ pub extern "C" fn calgedze_monitor_run(
 }
 
 // `preview::preview`.
-#[unsafe(no_mangle)]
-pub extern "C" fn calgedze_monitor_preview(state: &[u32], counts: &[u32], verdict: &mut u32) -> u64
+pub fn calgedze_monitor_preview(state: &[u32], counts: &[u32], verdict: &mut u32) -> u64
     ensures { previewed result verdict.new
         ≡ preview_of state.now counts.now verdict.old }
 {
@@ -193,8 +176,7 @@ pub extern "C" fn calgedze_monitor_preview(state: &[u32], counts: &[u32], verdic
 }
 
 // `scripts::open_generator`.
-#[unsafe(no_mangle)]
-pub extern "C" fn calgedze_generator_open(
+pub fn calgedze_generator_open(
     upper: &[u32],
     lower: &[u32],
     unlimited: u32,
@@ -207,12 +189,7 @@ pub extern "C" fn calgedze_generator_open(
 }
 
 // `scripts::generate`.
-#[unsafe(no_mangle)]
-pub extern "C" fn calgedze_generator_run(
-    state: &mut [u32],
-    choices: &[u32],
-    counts: &mut [u32],
-) -> u64
+pub fn calgedze_generator_run(state: &mut [u32], choices: &[u32], counts: &mut [u32]) -> u64
     ensures { sent result state.new counts.new
         ≡ sent_choices state.old choices.now counts.old }
 {
@@ -220,8 +197,7 @@ pub extern "C" fn calgedze_generator_run(
 }
 
 // `scripts::look`.
-#[unsafe(no_mangle)]
-pub extern "C" fn calgedze_generator_look(state: &[u32]) -> u64
+pub fn calgedze_generator_look(state: &[u32]) -> u64
     ensures { result ≡ looked state.now }
 {
     scripts::look(state)

@@ -6,4 +6,4 @@ use Rattle.figures.specs.declared.Input.TheVariants.{Bytes, Failed}
 -- What was read fits into the n bytes that it was read into.
 abbrev pub Fits : ℕ → Input → Type 0
 Fits n (Bytes k) = k ≤ n
-Fits n Failed = Unit {0}
+Fits n (Failed _) = Unit {0}

@@ -12,9 +12,11 @@ mod rounds;
 mod runs;
 mod states;
 
-fn main() {
-    lists::try_all();
-    rounds::try_all();
-    states::try_all();
-    runs::try_all();
+use std::io;
+
+fn main(rt: HostRuntime) -> io::Result<()> {
+    lists::try_all(&rt)?;
+    rounds::try_all(&rt)?;
+    states::try_all(&rt)?;
+    runs::try_all(&rt)
 }

@@ -1,28 +1,21 @@
 // Numbers: written out, drawn, and boiled down.
 ghost use Rattle.std.specs.Prelude.{◌≤◌, ◌<◌};
 
-use libc::STDOUT_FILENO;
+use std::io;
 
 // A number after a blank.
-pub(crate) fn show(n: u64) {
-    io::write_all(STDOUT_FILENO, b" ");
-    io::print_decimal(STDOUT_FILENO, n);
+pub(crate) fn show(rt: &impl Print, n: u64) -> io::Result<()> {
+    print!(rt; " {n}")
 }
 
-// The same, with a sign right before the digits where it is negative. The least i64 has no opposite: so 1 is added before the sign is
-// turned, and again after it.
-pub(crate) fn show_signed(n: i64) {
-    if n < 0 {
-        io::write_all(STDOUT_FILENO, b" -");
-        io::print_decimal(STDOUT_FILENO, (0 - (n + 1)) as u64 + 1);
-    } else {
-        show(n as u64);
-    }
+// The same, with a sign right before the digits where it is negative.
+pub(crate) fn show_signed(rt: &impl Print, n: i64) -> io::Result<()> {
+    print!(rt; " {n}")
 }
 
-pub(crate) fn show_two(m: u64, n: u64) {
-    show(m);
-    show(n);
+pub(crate) fn show_two(rt: &impl Print, m: u64, n: u64) -> io::Result<()> {
+    show(rt, m)?;
+    show(rt, n)
 }
 
 // One step of a xorshift generator.

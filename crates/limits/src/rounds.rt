@@ -3,7 +3,7 @@
 ghost use Rattle.std.specs.Prelude.{◌≡◌, length};
 
 use crate::numbers;
-use libc::STDOUT_FILENO;
+use std::io;
 
 const LIMIT: u32 = 16_776_960;
 
@@ -14,16 +14,16 @@ const MAX_HORIZON: usize = 256;
 // The bit of an answer that says that a pair has no ceilings.
 const UNLIMITED: u64 = 65_536;
 
-pub(crate) fn try_all() {
-    try_text(b"window,least,most\r\n2,0,2\r\n255,255,65535\r\n");
-    try_text(b"window,least,most\r\n2,0,2\r\n255,256,65535\r\n");
-    try_two_windows();
-    try_text(b"window,least,most\r\n1,65535,\r\n256,0,\r\n");
-    try_text(b"window,least,most\r\n1,0,65535\r\n256,5,\r\n");
+pub(crate) fn try_all(rt: &impl Print) -> io::Result<()> {
+    try_text(rt, b"window,least,most\r\n2,0,2\r\n255,255,65535\r\n")?;
+    try_text(rt, b"window,least,most\r\n2,0,2\r\n255,256,65535\r\n")?;
+    try_two_windows(rt)?;
+    try_text(rt, b"window,least,most\r\n1,65535,\r\n256,0,\r\n")?;
+    try_text(rt, b"window,least,most\r\n1,0,65535\r\n256,5,\r\n")
 }
 
 // The pair of a text, with its mark: where that is set, the ceilings are the largest numbers still.
-fn try_text(text: &[u8]) {
+fn try_text(rt: &impl Print, text: &[u8]) -> io::Result<()> {
     let mut upper = figures(LARGEST);
     let mut lower = figures(0);
     let answer = exports::calgedze_read(text, &mut upper, &mut lower);
@@ -31,8 +31,9 @@ fn try_text(text: &[u8]) {
     let horizon = answer % UNLIMITED;
     if horizon <= 256 {
         let h = horizon as usize;
-        try_closing(&upper[..h], &lower[..h], mark);
+        try_closing(rt, &upper[..h], &lower[..h], mark)?;
     }
+    Ok(())
 }
 
 // The mark in an answer; none is in a refusal's.
@@ -42,32 +43,30 @@ fn mark_of(answer: u64) -> u32 {
 }
 
 // A ceiling of 40,000 messages a tick in 5 ticks, and a least of as many in 253.
-fn try_two_windows() {
+fn try_two_windows(rt: &impl Print) -> io::Result<()> {
     let mut upper = figures(LIMIT);
     let mut lower = figures(0);
     upper[4] = 200_000;
     lower[252] = 10_120_000;
-    try_closing(&upper, &lower, 0);
+    try_closing(rt, &upper, &lower, 0)
 }
 
 // What closing the pair answers, and what it leaves of lists of 256 entries.
-fn try_closing(upper: &[u32], lower: &[u32], mark: u32) {
+fn try_closing(rt: &impl Print, upper: &[u32], lower: &[u32], mark: u32) -> io::Result<()> {
     let mut closed_upper = figures(7);
     let mut closed_lower = figures(7);
-    io::write_all(STDOUT_FILENO, b"rounds");
-    numbers::show(upper.len() as u64);
-    numbers::show(exports::calgedze_close(
-        upper,
-        lower,
-        mark,
-        &mut closed_upper,
-        &mut closed_lower,
-    ));
+    print!(rt; "rounds")?;
+    numbers::show(rt, upper.len() as u64)?;
+    numbers::show(
+        rt,
+        exports::calgedze_close(upper, lower, mark, &mut closed_upper, &mut closed_lower),
+    )?;
     numbers::show_two(
+        rt,
         numbers::digest(&closed_upper),
         numbers::digest(&closed_lower),
-    );
-    io::write_all(STDOUT_FILENO, b"\n");
+    )?;
+    print!(rt; "\n")
 }
 
 fn figures(figure: u32) -> [u32; MAX_HORIZON]

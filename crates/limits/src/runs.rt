@@ -3,8 +3,8 @@
 ghost use Rattle.std.specs.Prelude.{◌≤◌, ◌≡◌, length};
 
 use crate::{numbers, states};
-use libc::STDOUT_FILENO;
 use monitor::{Monitor, MonitorOpening};
+use std::io;
 
 const CASES: u64 = 160;
 
@@ -13,37 +13,39 @@ const LIMITED_CASES: u64 = 120;
 
 const TICKS: usize = 12;
 
-pub(crate) fn try_all() {
-    try_example();
+pub(crate) fn try_all(rt: &impl Print) -> io::Result<()> {
+    try_example(rt)?;
     let mut case = 1;
     while case <= CASES {
-        try_drawn(case);
+        try_drawn(rt, case)?;
         case += 1;
     }
+    Ok(())
 }
 
 // The README's example: the margins are 5, 4, 3, 1, 0 and -6, with too many, and then none, as the monitor has failed.
-fn try_example() {
+fn try_example(rt: &impl Print) -> io::Result<()> {
     let upper = [10, 16, 20];
     let lower = [0, 2, 4];
     let counts = [5, 6, 6, 7, 7, 12, 1];
-    try_run(0, &upper, &lower, false, &counts);
+    try_run(rt, 0, &upper, &lower, false, &counts)
 }
 
 // Some streams pass whole, others are rejected early or late, and some pairs are refused. Without ceilings none is refused, and what stands
 // in their place would reject more.
-fn try_drawn(case: u64) {
+fn try_drawn(rt: &impl Print, case: u64) -> io::Result<()> {
     let horizon = 1 + numbers::draw(case, 20, 8) as usize;
     let upper = draw_list(case, 6_144, 4, 2, 9);
     let lower = draw_list(case, 7_168, 0, 1, 5);
     let counts = draw_list(case, 14_336, 1, 0, 5);
     try_run(
+        rt,
         case,
         &upper[..horizon],
         &lower[..horizon],
         LIMITED_CASES < case,
         &counts,
-    );
+    )
 }
 
 // Figures or counts: entry i is one of `choices` numbers from `first + i * step` on. An odd `choices` is best: a draw's last bits, and so
@@ -63,37 +65,45 @@ fn draw_list(case: u64, k: u64, first: u32, step: u32, choices: u64) -> [u32; TI
 
 // The number of the case, the horizon, the mark, what opening answers, and each tick's answer. A refused opening hands out a state too: its
 // ticks are refused with 12.
-fn try_run(case: u64, upper: &[u32], lower: &[u32], unlimited: bool, counts: &[u32]) {
+fn try_run(
+    rt: &impl Print,
+    case: u64,
+    upper: &[u32],
+    lower: &[u32],
+    unlimited: bool,
+    counts: &[u32],
+) -> io::Result<()> {
     let opened = Monitor::open(upper, lower, unlimited);
     let opening = opened.opening;
     let state = opened.state;
-    io::write_all(STDOUT_FILENO, b"run");
-    numbers::show_two(case, upper.len() as u64);
-    numbers::show(unlimited as u64);
-    show_opening(opening);
-    try_ticks(state, counts);
-    io::write_all(STDOUT_FILENO, b"\n");
+    print!(rt; "run")?;
+    numbers::show_two(rt, case, upper.len() as u64)?;
+    numbers::show(rt, unlimited as u64)?;
+    show_opening(rt, opening)?;
+    try_ticks(rt, state, counts)?;
+    print!(rt; "\n")
 }
 
-fn show_opening(opening: MonitorOpening) {
+fn show_opening(rt: &impl Print, opening: MonitorOpening) -> io::Result<()> {
     match opening {
-        MonitorOpening::Opened => numbers::show(0),
-        MonitorOpening::UpperLength => numbers::show(1),
-        MonitorOpening::LowerLength => numbers::show(2),
-        MonitorOpening::FigureLimit => numbers::show(4),
-        MonitorOpening::NoClosure => numbers::show(5),
+        MonitorOpening::Opened => numbers::show(rt, 0),
+        MonitorOpening::UpperLength => numbers::show(rt, 1),
+        MonitorOpening::LowerLength => numbers::show(rt, 2),
+        MonitorOpening::FigureLimit => numbers::show(rt, 4),
+        MonitorOpening::NoClosure => numbers::show(rt, 5),
     }
 }
 
 // Each tick by the state that the one before it left.
-fn try_ticks(opened: Monitor, counts: &[u32]) {
+fn try_ticks(rt: &impl Print, opened: Monitor, counts: &[u32]) -> io::Result<()> {
     let mut monitor = opened;
     let mut i = 0;
     while i < counts.len() {
         let judgement = monitor.tick(counts[i]);
         let verdict = judgement.verdict;
-        states::show_answer(verdict, judgement.margin, judgement.window);
+        states::show_answer(rt, verdict, judgement.margin, judgement.window)?;
         monitor = judgement.next;
         i += 1;
     }
+    Ok(())
 }

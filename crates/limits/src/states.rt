@@ -5,8 +5,8 @@ ghost use Rattle.std.specs.Prelude.{◌≤◌};
 use crate::{draws, numbers};
 use generator::{Admissible, Generator, Sending};
 use history::History;
-use libc::STDOUT_FILENO;
 use monitor::{Monitor, Verdict};
+use std::io;
 
 const CASES: u64 = 600;
 
@@ -17,19 +17,20 @@ const MAX_HORIZON: usize = 256;
 
 const LARGEST_COUNT: u32 = 4_294_967_295;
 
-pub(crate) fn try_all() {
-    try_stuck();
-    try_full(false);
-    try_full(true);
+pub(crate) fn try_all(rt: &impl Print) -> io::Result<()> {
+    try_stuck(rt)?;
+    try_full(rt, false)?;
+    try_full(rt, true)?;
     let mut case = 1;
     while case <= CASES {
-        try_state(case);
+        try_state(rt, case)?;
         case += 1;
     }
+    Ok(())
 }
 
 // A generator on document 01's published pair as it is read, which no opening hands out, after 0, 2, 1, 0, 2, 0: no count can follow.
-fn try_stuck() {
+fn try_stuck(rt: &impl Print) -> io::Result<()> {
     let mut upper = [0; MAX_HORIZON];
     upper[0] = 3;
     upper[1] = 6;
@@ -50,14 +51,14 @@ fn try_stuck() {
         held: 4,
         ticks,
     };
-    io::write_all(STDOUT_FILENO, b"stuck");
-    try_generator(Generator { history }, 0);
-    io::write_all(STDOUT_FILENO, b"\n");
+    print!(rt; "stuck")?;
+    try_generator(rt, Generator { history }, 0)?;
+    print!(rt; "\n")
 }
 
 // A monitor that holds as many ticks as it can, of the largest count each, over ceilings of 0: no window has a larger sum, and no margin is
 // smaller. Without ceilings one more of them passes.
-fn try_full(unlimited: bool) {
+fn try_full(rt: &impl Print, unlimited: bool) -> io::Result<()> {
     let zeros = [0; MAX_HORIZON];
     let history = History {
         horizon: MAX_HORIZON,
@@ -73,20 +74,20 @@ fn try_full(unlimited: bool) {
         closed_lower: zeros,
         failed: false,
     };
-    io::write_all(STDOUT_FILENO, b"full");
-    try_monitor(monitor, LARGEST_COUNT);
-    io::write_all(STDOUT_FILENO, b"\n");
+    print!(rt; "full")?;
+    try_monitor(rt, monitor, LARGEST_COUNT)?;
+    print!(rt; "\n")
 }
 
-fn try_state(case: u64) {
+fn try_state(rt: &impl Print, case: u64) -> io::Result<()> {
     let history = build(case);
     let monitor = build_monitor(case, history);
     let count = draws::draw_count(case, 2, 12, 4);
-    io::write_all(STDOUT_FILENO, b"state");
-    numbers::show(case);
-    try_monitor(monitor, count);
-    try_generator(Generator { history }, count);
-    io::write_all(STDOUT_FILENO, b"\n");
+    print!(rt; "state")?;
+    numbers::show(rt, case)?;
+    try_monitor(rt, monitor, count)?;
+    try_generator(rt, Generator { history }, count)?;
+    print!(rt; "\n")
 }
 
 // The closed figures have nothing to do with those as given: they are tighter in some windows and looser in others.
@@ -123,7 +124,7 @@ fn build(case: u64) -> History {
 }
 
 // A tick of the monitor: what it answers, and the state that comes back.
-fn try_monitor(monitor: Monitor, count: u32) {
+fn try_monitor(rt: &impl Print, monitor: Monitor, count: u32) -> io::Result<()> {
     let judgement = monitor.tick(count);
     let verdict = judgement.verdict;
     let next = judgement.next;
@@ -131,29 +132,34 @@ fn try_monitor(monitor: Monitor, count: u32) {
     let history = next.history;
     let closed_upper = next.closed_upper;
     let closed_lower = next.closed_lower;
-    show_answer(verdict, judgement.margin, judgement.window);
-    numbers::show(next.failed as u64);
-    show_history(history, added);
-    show_entries(closed_upper, ceilings(history), added);
-    show_entries(closed_lower, ceilings(history), added);
+    show_answer(rt, verdict, judgement.margin, judgement.window)?;
+    numbers::show(rt, next.failed as u64)?;
+    show_history(rt, history, added)?;
+    show_entries(rt, closed_upper, ceilings(history), added)?;
+    show_entries(rt, closed_lower, ceilings(history), added)
 }
 
 // A tick's answer: the verdict, the margin, and the window that has it.
-pub(crate) fn show_answer(verdict: Verdict, margin: i64, window: usize) {
-    show_verdict(verdict);
-    numbers::show_signed(margin);
-    numbers::show(window as u64);
+pub(crate) fn show_answer(
+    rt: &impl Print,
+    verdict: Verdict,
+    margin: i64,
+    window: usize,
+) -> io::Result<()> {
+    show_verdict(rt, verdict)?;
+    numbers::show_signed(rt, margin)?;
+    numbers::show(rt, window as u64)
 }
 
 // The kind of a verdict, and the window that it names.
-fn show_verdict(verdict: Verdict) {
+fn show_verdict(rt: &impl Print, verdict: Verdict) -> io::Result<()> {
     match verdict {
-        Verdict::Passed => numbers::show_two(0, 0),
-        Verdict::TooMany { window } => numbers::show_two(1, window as u64),
-        Verdict::TooFew { window } => numbers::show_two(2, window as u64),
-        Verdict::AlreadyFailed => numbers::show_two(3, 0),
-        Verdict::Lost => numbers::show_two(4, 0),
-        Verdict::BadState => numbers::show_two(12, 0),
+        Verdict::Passed => numbers::show_two(rt, 0, 0),
+        Verdict::TooMany { window } => numbers::show_two(rt, 1, window as u64),
+        Verdict::TooFew { window } => numbers::show_two(rt, 2, window as u64),
+        Verdict::AlreadyFailed => numbers::show_two(rt, 3, 0),
+        Verdict::Lost => numbers::show_two(rt, 4, 0),
+        Verdict::BadState => numbers::show_two(rt, 12, 0),
     }
 }
 
@@ -169,29 +175,29 @@ fn is_passed(verdict: Verdict) -> bool {
 }
 
 // The range, a tick of the generator, and the state that comes back.
-fn try_generator(generator: Generator, choice: u32) {
+fn try_generator(rt: &impl Print, generator: Generator, choice: u32) -> io::Result<()> {
     let admissible = generator.range();
-    show_range(admissible);
+    show_range(rt, admissible)?;
     let sent = generator.tick(choice);
     let sending = sent.sending;
     let next = sent.next;
-    show_sending(sending);
-    show_history(next.history, is_sent(sending));
+    show_sending(rt, sending)?;
+    show_history(rt, next.history, is_sent(sending))
 }
 
-fn show_range(admissible: Admissible) {
+fn show_range(rt: &impl Print, admissible: Admissible) -> io::Result<()> {
     match admissible {
-        Admissible::Range { lo, hi } => numbers::show_two(lo as u64, hi as u64),
-        Admissible::BadState => numbers::show_two(12, 0),
-        Admissible::NoCount => numbers::show_two(13, 0),
+        Admissible::Range { lo, hi } => numbers::show_two(rt, lo as u64, hi as u64),
+        Admissible::BadState => numbers::show_two(rt, 12, 0),
+        Admissible::NoCount => numbers::show_two(rt, 13, 0),
     }
 }
 
-fn show_sending(sending: Sending) {
+fn show_sending(rt: &impl Print, sending: Sending) -> io::Result<()> {
     match sending {
-        Sending::Sent { count } => numbers::show_two(0, count as u64),
-        Sending::BadState => numbers::show_two(12, 0),
-        Sending::NoCount => numbers::show_two(13, 0),
+        Sending::Sent { count } => numbers::show_two(rt, 0, count as u64),
+        Sending::BadState => numbers::show_two(rt, 12, 0),
+        Sending::NoCount => numbers::show_two(rt, 13, 0),
     }
 }
 
@@ -204,15 +210,15 @@ fn is_sent(sending: Sending) -> bool {
 }
 
 // The view of a state after a tick that was added; else every entry, since the very state comes back.
-fn show_history(history: History, added: bool) {
-    numbers::show_two(history.horizon as u64, history.held as u64);
-    numbers::show(history.unlimited as u64);
+fn show_history(rt: &impl Print, history: History, added: bool) -> io::Result<()> {
+    numbers::show_two(rt, history.horizon as u64, history.held as u64)?;
+    numbers::show(rt, history.unlimited as u64)?;
     let upper = history.upper;
     let lower = history.lower;
     let ticks = history.ticks;
-    show_entries(upper, ceilings(history), added);
-    show_entries(lower, history.horizon, added);
-    show_entries(ticks, history.held, added);
+    show_entries(rt, upper, ceilings(history), added)?;
+    show_entries(rt, lower, history.horizon, added)?;
+    show_entries(rt, ticks, history.held, added)
 }
 
 // How many ceilings a view has, or closed figures of either kind: none where the pair has no ceilings.
@@ -225,9 +231,14 @@ fn ceilings(history: History) -> usize {
 }
 
 // The first n entries, or all.
-fn show_entries(entries: [u32; MAX_HORIZON], n: usize, view: bool) {
+fn show_entries(
+    rt: &impl Print,
+    entries: [u32; MAX_HORIZON],
+    n: usize,
+    view: bool,
+) -> io::Result<()> {
     let k = shown(n, view);
-    numbers::show(numbers::digest(&entries[..k]));
+    numbers::show(rt, numbers::digest(&entries[..k]))
 }
 
 fn shown(n: usize, view: bool) -> usize

@@ -1,0 +1,10 @@
+-- `figures::read_input` ends, and never counts more bytes than there is room for: each turn reads a byte at least, or is the last.
+-- Assumes nothing.
+use Rattle.std.proofs.Common.{length, ◌-◌, ◌≡◌, ◌≤◌}
+use Rattle.figures.proofs.read_input.Given as goal
+
+abbrev pub invariant-loop-n : goal.invariant-loop-n
+invariant-loop-n g l = (l.n ≤ length l.text) × (length l.text ≡ length l.initial.text)
+
+abbrev pub decreases-loop-n : goal.decreases-loop-n
+decreases-loop-n g l = length l.initial.text - l.n
