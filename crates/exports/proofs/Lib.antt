@@ -1,2 +1,3 @@
 -- What is proved of the functions at the boundary.
+mod Coded
 mod Copied
