@@ -6,7 +6,7 @@
 #![tactic(auto)]
 
 mod draws;
-mod lists;
+mod lengths;
 mod numbers;
 mod rounds;
 mod runs;
@@ -15,7 +15,7 @@ mod states;
 use std::io;
 
 fn main(rt: HostRuntime) -> io::Result<()> {
-    lists::try_all(&rt)?;
+    lengths::try_all(&rt)?;
     rounds::try_all(&rt)?;
     states::try_all(&rt)?;
     runs::try_all(&rt)
