@@ -3,10 +3,10 @@
 
 usage: python3 tools/respell.py        at the top of the repository, once, after the kit's port.py
 
-Functions, lemmas, fields and variables become snake case: withMark is with_mark, all-behind is all_behind. A dash stays where it joins a
-name of specs/ to an operation of the library, as in sum-append. Types and facts keep their capitals. Names of the libraries, names that the prover makes, and all of src/ but its
-ghost lines and clauses stay. Pages in README.md and docs/ take the new names between backticks. What falls together is said, and nothing is
-written then.
+Functions, lemmas, fields and variables become snake case: withMark is with_mark, all-kept is all_kept. A dash stays where it joins a name of
+specs/ to an operation of the library, as in sum-append. Types and facts keep their capitals. Names of the libraries stay, but for the four
+in APART, and so do names that the prover makes. In src/ and in the must-fail edits camel-case names alone turn, wherever they stand; in
+README.md and docs/ all of them, between backticks. Names that would fall together are said, and nothing is written then.
 """
 
 import os
@@ -16,13 +16,13 @@ NAME = re.compile(r"[A-Za-z0-9_'?ℕℤμ∞₀₁₂≤<≡+·-]+")
 SIGNATURE = re.compile(r"^\s*(?:(?:pub|unfoldable|abbrev)\s+)*([^\s(){}\[\];,\"]+)(?:\s+\{ℓ[^}]*\})?\s+:\s")
 DECLARED = re.compile(r"^\s*(?:(?:pub|unfoldable|abbrev)\s+)*(?:record|data|module)\s+([^\s(){}]+)")
 
-# The operations on lists and numbers that the libraries' names with a dash are of.
+# Operations of the library on lists and numbers. A dash joins their names to others'.
 LIBRARY = set("append take drop length map set sets get_or replicate suc".split())
 
 # Names that the rules below do not turn, and lemmas that would fall together with what they are about.
 APART = {"Dec·and": "dec_and", "Dec·not": "dec_not", "List·getD-append": "list_get_or-append", "getD-table": "get_or-table"}
-LEMMAS = """all-behind fed-at from_last head-field held_after judged-all lower-differences lower-sums margin-with monitor-view no-ceiling no-most read-records
-rendered-into report-into send-on sent-all sent-from strict-from sum-of too_many upper-differences upper-sums""".split()
+LEMMAS = """all-behind fed-at from_last head-field held_after judged-all lower-differences lower-sums margin-with monitor-view no-ceiling
+no-most read-records rendered-into report-into send-on sent-all sent-from strict-from sum-of too_many upper-differences upper-sums""".split()
 APART |= {name: name.replace("-", "_") + "_lem" for name in LEMMAS}
 
 # Names that a definition and a function of src/ share, since the one is what the other computes; and `goes_on` and `at_first`, which no
