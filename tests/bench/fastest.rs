@@ -1,7 +1,6 @@
 //! The fastest forms that were found, in integers: closing with the windows of one block side by side in registers and the parts outside,
 //! lists on running sums without an exit in the middle, reading in one pass with no search for the ends of lines. All are inlined into
-//! the builds that use them. Closing compares integers, where the product compares floats: it stays so, as the measure that earlier
-//! ratios were taken by.
+//! the builds that use them.
 //!
 //! A state is changed in place, and only what was opened here can be one, so that question 12 is not asked of it.
 

@@ -1,12 +1,12 @@
 -- What `asking` says, case by case: all questions are answered yes, or one is the first that is answered no. Assumes nothing.
+use Rattle.std.specs.Prelude.{Result, Ok, Err}
 use Rattle.laws.proofs.Base.{ℕ, ◌≡◌, refl, sym, List, [], ◌∷◌, ◌++◌, inl}
 use Rattle.curves.specs.Unlimited.{AnyPair}
 use Rattle.curves.specs.Questions.{Question, AllYes, FirstNo, Reply, result, refusal, reply_to}
 use Rattle.curves.proofs.Asked.{yes_append, yes_parts, no_before, no_after, said_no, said_yes, refusal_iff, result_from}
-use Rattle.bounds.specs.declared.Asked.{Asked}
-use Rattle.bounds.specs.declared.Asked.TheVariants.{Passes, UpperLength, LowerLength, FigureLimit}
+use Rattle.bounds.specs.declared.PairRefusal.{PairRefusal}
 use Rattle.bounds.specs.Bounds.{pair_questions, asking}
-use Rattle.bounds.specs.Answers.{asked_reply}
+use Rattle.bounds.specs.Answers.{pair_refusal_number, asked_reply}
 
 module _ (p : AnyPair) where
   pub asking_yes : AllYes (pair_questions p) → result tt ≡ asking p
@@ -26,17 +26,13 @@ module _ (p : AnyPair) where
   no_from n e = (refusal_iff (pair_questions p) _ n).0 e
 
   -- What an answer tells of the questions.
-  abbrev pub Found : Asked → Type 0
-  Found Passes = AllYes (pair_questions p)
-  Found UpperLength = FirstNo (pair_questions p) 1
-  Found LowerLength = FirstNo (pair_questions p) 2
-  Found FigureLimit = FirstNo (pair_questions p) 4
+  abbrev pub Found : Result (Unit {0}) PairRefusal → Type 0
+  Found (Ok u) = AllYes (pair_questions p)
+  Found (Err e) = FirstNo (pair_questions p) (pair_refusal_number e)
 
-  pub found : (a : Asked) → asked_reply a ≡ asking p → Found a
-  found Passes e = yes_from (sym e)
-  found UpperLength e = no_from 1 (sym e)
-  found LowerLength e = no_from 2 (sym e)
-  found FigureLimit e = no_from 4 (sym e)
+  pub found : (a : Result (Unit {0}) PairRefusal) → asked_reply a ≡ asking p → Found a
+  found (Ok u) e = yes_from (sym e)
+  found (Err r) e = no_from (pair_refusal_number r) (sym e)
 
 -- ---- one question asked after them
 module _ (p : AnyPair) (more : Question) where

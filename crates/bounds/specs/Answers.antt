@@ -1,10 +1,18 @@
--- Document 01's number for each case of `Asked`.
-use Rattle.curves.specs.Questions.{Reply, result, refusal}
-use Rattle.bounds.specs.declared.Asked.{Asked}
-use Rattle.bounds.specs.declared.Asked.TheVariants.{Passes, UpperLength, LowerLength, FigureLimit}
+-- The pair that `Curves` stands for, and document 01's number for each case of `PairRefusal`.
+use Rattle.std.specs.Prelude.{ℕ, Result}
+use Rattle.curves.specs.Unlimited.{AnyPair, with_mark}
+use Rattle.curves.specs.Questions.{Reply, reply_of}
+use Rattle.bounds.specs.declared.Curves.{Curves}
+use Rattle.bounds.specs.declared.PairRefusal.{PairRefusal}
+use Rattle.bounds.specs.declared.PairRefusal.TheVariants.{UpperLength, LowerLength, FigureLimit}
 
-abbrev pub asked_reply : Asked → Reply (Unit {0})
-asked_reply Passes = result tt
-asked_reply UpperLength = refusal 1
-asked_reply LowerLength = refusal 2
-asked_reply FigureLimit = refusal 4
+abbrev pub curves_in : Curves → AnyPair
+curves_in c = with_mark c.upper.now c.lower.now c.unlimited
+
+abbrev pub pair_refusal_number : PairRefusal → ℕ
+pair_refusal_number UpperLength = 1
+pair_refusal_number LowerLength = 2
+pair_refusal_number FigureLimit = 4
+
+abbrev pub asked_reply : Result (Unit {0}) PairRefusal → Reply (Unit {0})
+asked_reply r = reply_of (λ u. u) pair_refusal_number r

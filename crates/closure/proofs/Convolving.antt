@@ -1,18 +1,16 @@
 -- Laws over plain lists for the sums of a round, four of each window at a time. Assumes nothing.
-use Rattle.laws.proofs.Base.{ℕ, ◌+◌, ◌-◌, ◌≤◌, ◌<◌, min, ◌≡◌, ap, ◌∙◌, List, ◌⊎◌, inl, inr, dec_le, dec_lt, arith, length, get_or}
+use Rattle.laws.proofs.Base.{ℕ, ◌+◌, ◌-◌, ◌≤◌, ◌<◌, min, ◌≡◌, ap, ◌∙◌, List, [], ◌∷◌, ◌⊎◌, inl, inr, dec_le, dec_lt, arith, length, get_or}
 use Rattle.laws.proofs.Base.{take, drop}
 use borrow.Rule.Slice.PartMut.{put_mid, same_len_mid}
 use Rattle.laws.proofs.Best.{min_best, fold_first, fold_each}
 use Rattle.laws.proofs.Table.{length-table}
 use Rattle.curves.specs.Pairs.{figure}
 use Rattle.curves.proofs.Figures.{figure_entry}
-use Rattle.closure.specs.Widths.{sum_limit}
-use Rattle.closure.specs.declared.convolution.Four.{Four}
-use Rattle.closure.specs.Steps.{no_figure, AllComparable, Normal, SumsWithin, AllNormal, in_row, IsRow}
-use Rattle.closure.specs.Steps.{falling, smallest_of_five, lowered_to_sums, convolved}
-use Rattle.closure.proofs.Rows.{sum_normal}
-use Rattle.closure.proofs.Passes.{part_at, part_length, behind_kept, behind_new, one_of_four, Least, least-is, least_at}
-use Rattle.closure.proofs.Passes.{aim, Lowered, lowered_none, lowered-comparable, lowered-turn, lowered-all}
+use Rattle.closure.specs.Steps.{no_figure, NoneAbove, SumsWithin, Addable, in_row, IsRow}
+use Rattle.closure.specs.Steps.{smallest_of_five, lowered_to_sums, convolved}
+use Rattle.closure.proofs.Rows.{row_small}
+use Rattle.closure.proofs.Passes.{part_at, part_length, part_small, behind_kept, behind_new, one_of_four, four_small, Least, least-is, least_at}
+use Rattle.closure.proofs.Passes.{aim, Lowered, lowered_none, lowered-turn, lowered-all}
 
 module _ (own found : List ℕ) where
   abbrev pub sum_of : ℕ → ℕ → ℕ
@@ -28,7 +26,7 @@ module _ (own found : List ℕ) where
   pub convolving_begins : Convolving 1 found
   convolving_begins = lowered_none found sum_of (λ d. d - 1) (Summed 1) (λ d k s. omega (arith, s.0, s.1))
 
-module _ (own found : List ℕ) (row : IsRow (length found) own) (within : SumsWithin (length found) own) (all : AllComparable found) where
+module _ (own found : List ℕ) (row : IsRow (length found) own) (within : SumsWithin (length found) own) (all : NoneAbove no_figure found) where
   -- The figure that is aimed at.
   abbrev aimed : ℕ → ℕ
   aimed d = aim found (sum_of own found) (λ d. d - 1) d
@@ -39,13 +37,8 @@ module _ (own found : List ℕ) (row : IsRow (length found) own) (within : SumsW
         arith,
         fold_first ◌≤◌ min min_best (figure 0 found d) (sum_of own found d) (d - 1),
         figure_entry 0 found d p,
-        (all (d - 1) (omega arith)).1,
+        all (d - 1),
       )
-
-  pub convolving_comparable : (a : ℕ) (best : List ℕ) → Convolving own found a best → AllComparable best
-  convolving_comparable a best t =
-      lowered-comparable found (sum_of own found) (λ d. d - 1) t all (λ d k p q u v.
-      omega (arith, within k (d - k) u (omega arith) (omega arith) (omega arith)))
 
   -- Two places of a row that are d and 6 together have a sum that is not below the aim for d: it is one of its sums, or a place has no
   -- window.
@@ -69,35 +62,25 @@ module _ (own found : List ℕ) (row : IsRow (length found) own) (within : SumsW
             ]
       ]
 
-  module _ (a : ℕ) (p : 1 ≤ a) (q : a + a ≤ length found) (best : List ℕ) (t : Convolving own found a best) (four : Four)
-      (is : four ≡ falling own (a + 3)) where
+  module _ (a : ℕ) (p : 1 ≤ a) (q : a + a ≤ length found) (best : List ℕ) (t : Convolving own found a best) where
     abbrev s : ℕ
     s = a + a - 2
 
     abbrev rest : List ℕ
     rest = take (length best - s) (drop s best)
 
+    abbrev four : List ℕ
+    four = get_or own (a + 6) 0 ∷ get_or own (a + 5) 0 ∷ get_or own (a + 4) 0 ∷ get_or own (a + 3) 0 ∷ []
+
     abbrev shifted : List ℕ
     shifted = take (length own - (a - 1)) (drop (a - 1) own)
 
-    -- The pass can be made: all that it compares is normal.
-    pub convolving_normal : AllNormal rest shifted four
-    convolving_normal i l =
-        let long : i < length best - s = omega (arith, part_length s best (omega (arith, t.whole))) in
-        let best_at = part_at s best i (omega arith) in
-        let (low, high) = convolving_comparable a best t (s + i) (omega arith) in
-        let at : (j k x : ℕ) → j ≤ i + 3 → k ≤ a + 6 → x ≡ get_or own k 0 → Normal (get_or shifted j 0 + x) =
-        λ j k x u v w.
-        rw (part_at (a - 1) own j (omega (arith, row.long, t.whole)), w)
-        (sum_normal sum_limit (omega arith) row row within (a - 1 + j) k (omega (arith, row.long, t.whole))
-        (omega (arith, row.long))) in (
-          (omega (arith, best_at), omega (arith, best_at)),
-          (
-            at i (a + 3 + 3) four.first (omega arith) (omega arith) (ap (λ x. x.first) is),
-            at (i + 1) (a + 3 + 2) four.second (omega arith) (omega arith) (ap (λ x. x.second) is),
-            at (i + 2) (a + 3 + 1) four.third (omega arith) (omega arith) (ap (λ x. x.third) is),
-            at (i + 3) (a + 3) four.fourth (omega arith) (omega arith) (ap (λ x. x.fourth) is),
-          ),
+    -- The pass can be made.
+    pub convolving_addable : Addable shifted four
+    convolving_addable =
+        let small : NoneAbove no_figure own = row_small row (λ d u v. omega (arith, within d d u v u v)) in (
+          part_small (a - 1) (length own - (a - 1)) own small,
+          four_small no_figure _ _ _ _ (small (a + 6)) (small (a + 5)) (small (a + 4)) (small (a + 3)),
         )
 
     module _ (ys : List ℕ) (e : ys ≡ lowered_to_sums shifted four rest) where
@@ -117,14 +100,14 @@ module _ (own found : List ℕ) (row : IsRow (length found) own) (within : SumsW
       -- The places d − a and a + 6 and the three pairs of places between them are what d is looked at for.
       lowest : (d : ℕ) → s < d → d ≤ length found
           → Least (figure 0 left d) (figure 0 best d)
-          (get_or own (d - a) 0 + get_or own (a + 3 + 3) 0) (get_or own (d - a + 1) 0 + get_or own (a + 3 + 2) 0)
-          (get_or own (d - a + 2) 0 + get_or own (a + 3 + 1) 0) (get_or own (d - a + 3) 0 + get_or own (a + 3) 0)
+          (get_or own (d - a) 0 + get_or own (a + 6) 0) (get_or own (d - a + 1) 0 + get_or own (a + 5) 0)
+          (get_or own (d - a + 2) 0 + get_or own (a + 4) 0) (get_or own (d - a + 3) 0 + get_or own (a + 3) 0)
       lowest d h l =
           least-is shifted four (d - 1 - s) _ _ _ _ _ _ _ (left_at d h l) best_at
-          (λ i. own_at (d - 1 - s) (d - a) (omega arith) (omega arith) i + (is i).first)
-          (λ i. own_at (d - 1 - s + 1) (d - a + 1) (omega arith) (omega arith) i + (is i).second)
-          (λ i. own_at (d - 1 - s + 2) (d - a + 2) (omega arith) (omega arith) i + (is i).third)
-          (λ i. own_at (d - 1 - s + 3) (d - a + 3) (omega arith) (omega arith) i + (is i).fourth)
+          (λ i. own_at (d - 1 - s) (d - a) (omega arith) (omega arith) i + get_or own (a + 6) 0)
+          (λ i. own_at (d - 1 - s + 1) (d - a + 1) (omega arith) (omega arith) i + get_or own (a + 5) 0)
+          (λ i. own_at (d - 1 - s + 2) (d - a + 2) (omega arith) (omega arith) i + get_or own (a + 4) 0)
+          (λ i. own_at (d - 1 - s + 3) (d - a + 3) (omega arith) (omega arith) i + get_or own (a + 3) 0)
         where
           own_at : (j k : ℕ) → a - 1 + j ≡ k → k ≤ d + 2 → get_or shifted j 0 ≡ get_or own k 0
           own_at j k i b = part_at (a - 1) own j (omega (arith, row.long)) ∙ ap (λ x. get_or own x 0) i
@@ -143,9 +126,9 @@ module _ (own found : List ℕ) (row : IsRow (length found) own) (within : SumsW
                 let above : (i j : ℕ) → i + j ≡ d + 6 → i ≤ d + 6 - (a + 3) → a + 3 ≤ j → aimed d ≤ get_or own i 0 + get_or own j 0 =
                 λ i j six k l. sum_above d i j u v six (omega (arith, row.long)) (omega (arith, row.long)) in (
                   m.no_less _ b
-                      (above (d - a) (a + 3 + 3) (omega arith) (omega arith) (omega arith))
-                      (above (d - a + 1) (a + 3 + 2) (omega arith) (omega arith) (omega arith))
-                      (above (d - a + 2) (a + 3 + 1) (omega arith) (omega arith) (omega arith))
+                      (above (d - a) (a + 6) (omega arith) (omega arith) (omega arith))
+                      (above (d - a + 1) (a + 5) (omega arith) (omega arith) (omega arith))
+                      (above (d - a + 2) (a + 4) (omega arith) (omega arith) (omega arith))
                       (above (d - a + 3) (a + 3) (omega arith) (omega arith) (omega arith)),
                   m.kept,
                 )
@@ -163,9 +146,9 @@ module _ (own found : List ℕ) (row : IsRow (length found) own) (within : SumsW
                 let m = lowest d (omega arith) v in
                 inr (one_of_four (λ x. x + x ≤ d → figure 0 left d ≤ sum_of own found d x) a k (omega arith) h.1
                 (is_sum a (d - a + 3) (a + 3) ((λ y. omega arith), omega arith) m.fourth)
-                (is_sum (a + 1) (d - a + 2) (a + 3 + 1) ((λ y. omega arith), omega arith) m.third)
-                (is_sum (a + 2) (d - a + 1) (a + 3 + 2) ((λ y. omega arith), omega arith) m.second)
-                (is_sum (a + 3) (d - a) (a + 3 + 3) ((λ y. omega arith), omega arith) m.first)
+                (is_sum (a + 1) (d - a + 2) (a + 4) ((λ y. omega arith), omega arith) m.third)
+                (is_sum (a + 2) (d - a + 1) (a + 5) ((λ y. omega arith), omega arith) m.second)
+                (is_sum (a + 3) (d - a) (a + 6) ((λ y. omega arith), omega arith) m.first)
                 h.2)
           ]
         where

@@ -1,5 +1,5 @@
 -- Laws over plain lists for the differences of a round, four of each window at a time. Assumes nothing.
-use Rattle.laws.proofs.Base.{ℕ, ◌+◌, ◌-◌, ◌≤◌, ◌<◌, min, ◌≡◌, ap, ◌∙◌, List, ◌++◌, ◌⊎◌, inl, inr, dec_le, dec_lt, arith, length, get_or, take}
+use Rattle.laws.proofs.Base.{ℕ, ◌+◌, ◌-◌, ◌≤◌, ◌<◌, min, ◌≡◌, ap, ◌∙◌, List, [], ◌∷◌, ◌++◌, ◌⊎◌, inl, inr, dec_le, dec_lt, arith, length, get_or, take}
 use Rattle.laws.proofs.Base.{drop, length-append, length-drop}
 use lib.ListN.{length-take}
 use lib.Seq.{get_or-take}
@@ -7,13 +7,11 @@ use Rattle.laws.proofs.Best.{min_best, fold_first, fold_each}
 use Rattle.laws.proofs.Table.{length-table}
 use Rattle.curves.specs.Pairs.{figure}
 use Rattle.curves.proofs.Figures.{figure_entry}
-use Rattle.bounds.specs.Bounds.{figure_limit}
-use Rattle.closure.specs.declared.convolution.Four.{Four}
-use Rattle.closure.specs.Steps.{AllComparable, Normal, DifferencesWithin, AllNormal, in_row, IsRow}
-use Rattle.closure.specs.Steps.{rising, smallest_of_five, lowered_to_sums, deconvolved}
-use Rattle.closure.proofs.Rows.{sum_normal}
-use Rattle.closure.proofs.Passes.{part_at, before_kept, before_new, one_of_four, Least, least-is, least_at}
-use Rattle.closure.proofs.Passes.{aim, Lowered, lowered_none, lowered-comparable, lowered-turn, lowered-all}
+use Rattle.closure.specs.Steps.{no_figure, NoneAbove, DifferencesWithin, Addable, in_row, IsRow}
+use Rattle.closure.specs.Steps.{smallest_of_five, lowered_to_sums, deconvolved}
+use Rattle.closure.proofs.Rows.{row_small}
+use Rattle.closure.proofs.Passes.{part_at, part_small, before_kept, before_new, one_of_four, four_small, Least, least-is, least_at}
+use Rattle.closure.proofs.Passes.{aim, Lowered, lowered_none, lowered-turn, lowered-all}
 
 module _ (own other found : List ℕ) where
   abbrev H : ℕ
@@ -33,18 +31,13 @@ module _ (own other found : List ℕ) where
   deconvolving_begins = lowered_none found difference_of (λ d. H - d) (Subtracted 1) (λ d k s. omega (arith, s.0, s.1))
 
 module _ (own other found : List ℕ) (row : IsRow (length found) own) (row' : IsRow (length found) other)
-    (within : DifferencesWithin (length found) own other) (all : AllComparable found) where
+    (within : DifferencesWithin (length found) own other) (all : NoneAbove no_figure found) where
   abbrev difference : ℕ → ℕ → ℕ
   difference = difference_of own other found
 
   -- The figure that is aimed at.
   abbrev aimed : ℕ → ℕ
   aimed d = aim found (difference_of own other found) (λ d. length found - d) d
-
-  pub deconvolving_comparable : (t : ℕ) (best : List ℕ) → Deconvolving own other found t best → AllComparable best
-  deconvolving_comparable t best w =
-      lowered-comparable found difference (λ d. length found - d) w all (λ d k p q u v.
-      omega (arith, within (d + k) k (omega arith) (omega arith) u (omega arith)))
 
   -- What a longer window leaves is not below the aim: it is one of its differences, or there is no such window.
   difference_above : (d k : ℕ) → 1 ≤ d → d ≤ length found → 1 ≤ k → d + k + 3 < length own → aimed d ≤ difference_of own other found d k
@@ -57,38 +50,29 @@ module _ (own other found : List ℕ) (row : IsRow (length found) own) (row' : I
               row.back (d + k + 3) (omega arith) l,
               fold_first ◌≤◌ min min_best (figure 0 found d) (difference_of own other found d) (length found - d),
               figure_entry 0 found d p,
-              (all (d - 1) (omega arith)).1,
+              all (d - 1),
             )
       ]
 
-  module _ (t : ℕ) (p : 1 ≤ t) (q : t < length found) (best : List ℕ) (w : Deconvolving own other found t best) (four : Four)
-      (is : four ≡ rising other (t + 3)) where
+  module _ (t : ℕ) (p : 1 ≤ t) (q : t < length found) (best : List ℕ) (w : Deconvolving own other found t best) where
     abbrev n : ℕ
     n = length found + 1 - t
 
     abbrev part : List ℕ
     part = take n best
 
+    abbrev four : List ℕ
+    four = get_or other (t + 3) 0 ∷ get_or other (t + 4) 0 ∷ get_or other (t + 5) 0 ∷ get_or other (t + 6) 0 ∷ []
+
     abbrev shifted : List ℕ
     shifted = take (length own - (t + 4)) (drop (t + 4) own)
 
-    -- The pass can be made: all that it compares is normal.
-    pub deconvolving_normal : AllNormal part shifted four
-    deconvolving_normal i l =
-        let (short, inside) : (i < n) × (i < length best) = (omega (arith, length-take n best), omega (arith, length-take n best)) in
-        let best_at = get_or-take n best i 0 short in
-        let (low, high) = deconvolving_comparable t best w i inside in
-        let at : (j k x : ℕ) → j ≤ i + 3 → k ≤ t + 6 → x ≡ get_or other k 0 → Normal (get_or shifted j 0 + x) =
-        λ j k x u v y.
-        rw (part_at (t + 4) own j (omega (arith, row.long)), y)
-        (sum_normal figure_limit (omega arith) row row' within (t + 4 + j) k (omega (arith, row.long)) (omega (arith, row'.long))) in (
-          (omega (arith, best_at), omega (arith, best_at)),
-          (
-            at i (t + 3) four.first (omega arith) (omega arith) (ap (λ x. x.first) is),
-            at (i + 1) (t + 3 + 1) four.second (omega arith) (omega arith) (ap (λ x. x.second) is),
-            at (i + 2) (t + 3 + 2) four.third (omega arith) (omega arith) (ap (λ x. x.third) is),
-            at (i + 3) (t + 3 + 3) four.fourth (omega arith) (omega arith) (ap (λ x. x.fourth) is),
-          ),
+    -- The pass can be made.
+    pub deconvolving_addable : Addable shifted four
+    deconvolving_addable =
+        let small : NoneAbove no_figure other = row_small row' (λ d u v. omega (arith, within d d u v u v)) in (
+          part_small (t + 4) (length own - (t + 4)) own (row_small row (λ d u v. omega (arith, within d d u v u v))),
+          four_small no_figure _ _ _ _ (small (t + 3)) (small (t + 4)) (small (t + 5)) (small (t + 6)),
         )
 
     module _ (ys : List ℕ) (e : ys ≡ lowered_to_sums shifted four part) where
@@ -110,16 +94,16 @@ module _ (own other found : List ℕ) (row : IsRow (length found) own) (row' : I
       lowest d u h =
           least-is shifted four (d - 1) _ _ _ _ _ _ _ (left_at d u h)
           (get_or-take n best (d - 1) 0 (omega arith) ∙ figure_entry 0 best d u)
-          (λ i. own_at (d - 1) (d + t) (omega arith) (omega arith) i + (is i).first)
-          (λ i. own_at (d - 1 + 1) (d + (t + 1)) (omega arith) (omega arith) i + (ap (λ x. x.second) is ∙ other_at 1) i)
-          (λ i. own_at (d - 1 + 2) (d + (t + 2)) (omega arith) (omega arith) i + (ap (λ x. x.third) is ∙ other_at 2) i)
-          (λ i. own_at (d - 1 + 3) (d + (t + 3)) (omega arith) (omega arith) i + (ap (λ x. x.fourth) is ∙ other_at 3) i)
+          (λ i. own_at (d - 1) (d + t) (omega arith) (omega arith) i + get_or other (t + 3) 0)
+          (λ i. own_at (d - 1 + 1) (d + (t + 1)) (omega arith) (omega arith) i + other_at (t + 4) 1 (omega arith) i)
+          (λ i. own_at (d - 1 + 2) (d + (t + 2)) (omega arith) (omega arith) i + other_at (t + 5) 2 (omega arith) i)
+          (λ i. own_at (d - 1 + 3) (d + (t + 3)) (omega arith) (omega arith) i + other_at (t + 6) 3 (omega arith) i)
         where
           own_at : (j k : ℕ) → t + 4 + j ≡ k + 3 → k ≤ d + t + 3 → get_or shifted j 0 ≡ in_row own k
           own_at j k i b = part_at (t + 4) own j (omega (arith, row.long)) ∙ ap (λ x. get_or own x 0) i
 
-          other_at : (k : ℕ) → get_or other (t + 3 + k) 0 ≡ in_row other (t + k)
-          other_at k = let i : t + 3 + k ≡ t + k + 3 = omega arith in ap (λ x. get_or other x 0) i
+          other_at : (j k : ℕ) → j ≡ t + k + 3 → get_or other j 0 ≡ in_row other (t + k)
+          other_at j k e = ap (λ x. get_or other x 0) e
 
       turn : (d : ℕ) → 1 ≤ d → d ≤ length found → aimed d ≤ figure 0 best d
           → (aimed d ≤ figure 0 left d) × (figure 0 left d ≤ figure 0 best d)

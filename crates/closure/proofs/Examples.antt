@@ -10,7 +10,7 @@ use Rattle.curves.proofs.Agreement.{tied}
 use Rattle.curves.proofs.Computed.{left?, left}
 use Rattle.bounds.specs.Bounds.{figure_limit}
 use Rattle.closure.specs.Widths.{sum_limit, RunAfter}
-use Rattle.closure.specs.Steps.{no_figure, falling, smallest_of_five, convolved, deconvolved}
+use Rattle.closure.specs.Steps.{no_figure, smallest_of_five, convolved, deconvolved}
 
 -- ---- both limits are reached, in the first round of a pair with the largest figures for one tick and 0 for two
 abbrev edge : Pair
@@ -42,5 +42,5 @@ unfolding fold table figure
 differences = refl
 
 -- Four at once: 40, 5 + 30, 9 + 20, 20 + 10 and a place without a window.
-four : smallest_of_five (5 ∷ 9 ∷ 20 ∷ no_figure ∷ []) (falling (1 ∷ 10 ∷ 20 ∷ 30 ∷ []) 0) 0 40 ≡ 29
+four : smallest_of_five (5 ∷ 9 ∷ 20 ∷ no_figure ∷ []) (30 ∷ 20 ∷ 10 ∷ 1 ∷ []) 0 40 ≡ 29
 four = refl

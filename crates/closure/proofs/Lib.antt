@@ -4,7 +4,6 @@ pub mod Given
 pub mod Room
 pub mod Promised
 pub mod Widths
-mod Floats
 mod Rows
 mod Passes
 mod Convolving

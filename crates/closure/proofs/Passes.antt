@@ -1,8 +1,8 @@
 -- Laws over plain lists for the passes of a round: the best of each window so far is at least the figure that is aimed at, and at most what
 -- has been looked at, in any order and however often. Assumes nothing.
-use Rattle.laws.proofs.Base.{ℕ, suc, ◌+◌, ◌-◌, ◌≤◌, ◌<◌, min, ◌≡◌, refl, sym, ap, ◌∙◌, List, ◌++◌, ◌⊎◌, ⊎_elim, subst, dec_le}
+use Rattle.laws.proofs.Base.{ℕ, zero, suc, ◌+◌, ◌-◌, ◌≤◌, ◌<◌, min, ◌≡◌, refl, sym, ap, ◌∙◌, List, [], ◌∷◌, ◌++◌, ◌⊎◌, ⊎_elim, subst, dec_le, dec_lt}
 use Rattle.laws.proofs.Base.{arith, length, get_or, take, drop, list_get_or-append, get_or-drop, length-drop, length-take-le}
-use lib.ListN.{length-take}
+use lib.ListN.{length-take, get_or-eq_default}
 use lib.Seq.{get_or-take, get_or-append-add}
 use borrow.Rule.Slice.PartMut.{put_mid}
 use Rattle.laws.specs.Ranges.{fold, table}
@@ -10,8 +10,7 @@ use Rattle.laws.proofs.Best.{min_best, fold_first, fold_both}
 use Rattle.laws.proofs.Table.{get_or-table, table_self}
 use Rattle.curves.specs.Pairs.{figure}
 use Rattle.curves.proofs.Figures.{figure_entry}
-use Rattle.closure.specs.declared.convolution.Four.{Four}
-use Rattle.closure.specs.Steps.{smallest_normal, AllComparable, smallest_of_five, lowered_to_sums}
+use Rattle.closure.specs.Steps.{NoneAbove, smallest_of_five, lowered_to_sums}
 use Rattle.closure.proofs.Rows.{entry_figure}
 
 -- ---- parts of a list
@@ -21,6 +20,14 @@ part_at s xs j h = get_or-take (length xs - s) (drop s xs) j 0 (omega arith) ∙
 
 pub part_length : (s : ℕ) (xs : List ℕ) → s ≤ length xs → length (take (length xs - s) (drop s xs)) ≡ length xs - s
 part_length s xs h = omega (arith, length-take (length xs - s) (drop s xs), length-drop s xs)
+
+-- No entry of a part is above a number that none of the list is.
+pub part_small : {n : ℕ} (s k : ℕ) (xs : List ℕ) → NoneAbove n xs → NoneAbove n (take k (drop s xs))
+part_small {n} s k xs small i =
+    elim (dec_lt i k) [
+      | yes h ↦ omega (arith, get_or-take k (drop s xs) i 0 h, get_or-drop s xs i 0, small (s + i))
+      | no h ↦ omega (arith, get_or-eq_default (take k (drop s xs)) 0 {n = i} (omega (arith, length-take k (drop s xs))))
+    ]
 
 -- An entry of two lists one after the other that is the second's.
 second_at : (xs ys : List ℕ) (n i : ℕ) → length xs ≡ n → n ≤ i → get_or (xs ++ ys) i 0 ≡ get_or ys (i - n) 0
@@ -75,6 +82,14 @@ one_of_four P t k l m p₀ p₁ p₂ p₃ =
     is : (x : ℕ) → x ≡ k → P x → P k
     is x e p = subst P e p
 
+-- None of four numbers is above another.
+pub four_small : (n a b c d : ℕ) → a ≤ n → b ≤ n → c ≤ n → d ≤ n → NoneAbove n (a ∷ b ∷ c ∷ d ∷ [])
+four_small n a b c d p q r s zero = p
+four_small n a b c d p q r s (suc zero) = q
+four_small n a b c d p q r s (suc (suc zero)) = r
+four_small n a b c d p q r s (suc (suc (suc zero))) = s
+four_small n a b c d p q r s (suc (suc (suc (suc i)))) = omega arith
+
 -- m is the smallest of h and four others.
 pub record Least (m h c₀ c₁ c₂ c₃ : ℕ) : Type 0 where
   pub kept : m ≤ h
@@ -96,22 +111,22 @@ least m h c₀ c₁ c₂ c₃ e =
     }
 
 pub least-is
-    : (row : List ℕ) (n : Four) (j m x h c₀ c₁ c₂ c₃ : ℕ) → m ≡ smallest_of_five row n j x → x ≡ h
-    → get_or row j 0 + n.first ≡ c₀ → get_or row (j + 1) 0 + n.second ≡ c₁
-    → get_or row (j + 2) 0 + n.third ≡ c₂ → get_or row (j + 3) 0 + n.fourth ≡ c₃
+    : (row n : List ℕ) (j m x h c₀ c₁ c₂ c₃ : ℕ) → m ≡ smallest_of_five row n j x → x ≡ h
+    → get_or row j 0 + get_or n 0 0 ≡ c₀ → get_or row (j + 1) 0 + get_or n 1 0 ≡ c₁
+    → get_or row (j + 2) 0 + get_or n 2 0 ≡ c₂ → get_or row (j + 3) 0 + get_or n 3 0 ≡ c₃
     → Least m h c₀ c₁ c₂ c₃
 least-is row n j m x h c₀ c₁ c₂ c₃ e e' e₀ e₁ e₂ e₃ =
     least m h c₀ c₁ c₂ c₃ (e ∙ (λ i. min (min (min (min (e' i) (e₀ i)) (e₁ i)) (e₂ i)) (e₃ i)))
 
 -- A turn of the loop that lowers entry by entry: the entry at i is still as found.
 pub least-turn
-    : (row : List ℕ) (n : Four) (found best : List ℕ) (i r : ℕ) → get_or best i 0 ≡ get_or found i 0
+    : (row n found best : List ℕ) (i r : ℕ) → get_or best i 0 ≡ get_or found i 0
     → r ≡ smallest_of_five row n i (get_or best i 0) → r ≡ smallest_of_five row n (i + 1 - 1) (figure 0 found (i + 1))
 least-turn row n found best i r e f = let back : i + 1 - 1 ≡ i = omega arith in f ∙ rw (e, back, entry_figure found i)
 
 -- The entry at j of the list that the loop leaves.
 pub least_at
-    : (row : List ℕ) (n : Four) (found ys : List ℕ) (j : ℕ) → ys ≡ lowered_to_sums row n found → j < length found
+    : (row n found ys : List ℕ) (j : ℕ) → ys ≡ lowered_to_sums row n found → j < length found
     → get_or ys j 0 ≡ smallest_of_five row n j (get_or found j 0)
 least_at row n found ys j e h =
     let back : suc j - 1 ≡ j = omega arith in
@@ -138,20 +153,6 @@ module _ (found : List ℕ) (candidate : ℕ → ℕ → ℕ) (count : ℕ → �
         below = λ d p q. omega arith;
         looked = λ d k p q s. absurd (never d k s);
       }
-
-  -- Its entries stay comparable, where no candidate is too small.
-  pub lowered-comparable
-      : {seen : ℕ → ℕ → Type 0} {best : List ℕ} → Lowered seen best → AllComparable found
-      → ((d k : ℕ) → 1 ≤ d → d ≤ length found → 1 ≤ k → k ≤ count d → smallest_normal ≤ candidate d k) → AllComparable best
-  lowered-comparable {seen} {best} t all large i l =
-      let within : i < length found = omega (arith, t.whole) in
-      let (low, high) = all i within in
-      let least : smallest_normal ≤ aim (i + 1) =
-      fold_both ◌≤◌ min min_best _ (candidate (i + 1)) smallest_normal (count (i + 1))
-      (omega (arith, low, entry_figure found i)) (λ k u v. large (i + 1) k (omega arith) (omega arith) u v) in (
-        omega (arith, least, t.above (i + 1) (omega arith) (omega arith), entry_figure best i),
-        omega (arith, high, t.below (i + 1) (omega arith) (omega arith), entry_figure best i, entry_figure found i),
-      )
 
   -- A turn lowers entries, none below its aim, and sees more.
   pub lowered-turn

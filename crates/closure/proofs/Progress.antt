@@ -1,6 +1,6 @@
 -- What the loop over the rounds holds: how far they have come, which is never further than nine.
 -- Assumes nothing.
-use Rattle.laws.proofs.Base.{ℕ, ◌+◌, ◌≤◌, ◌≡◌, sym, ap, ◌∙◌, subst, Bool, true, false, ⊎_elim, add-one, below_none, below_more, length}
+use Rattle.laws.proofs.Base.{ℕ, ◌+◌, ◌≤◌, ◌≡◌, sym, ap, ◌∙◌, subst, true, false, ⊎_elim, add-one, below_none, below_more, length}
 use lib.IntN.{ℤ}
 use Rattle.curves.specs.Pairs.{Curves, Pair, Same, horizon}
 use Rattle.curves.specs.Rounds.{whole, cut_off, figures_of, round, Crossed, Settled, after, Runs, Arrives, Crosses}
@@ -11,7 +11,6 @@ use Rattle.bounds.specs.Bounds.{max_horizon, Bounded}
 use Rattle.closure.specs.Widths.{HalfWidth, RunAfter}
 use Rattle.closure.specs.Steps.{Advanced}
 use Rattle.closure.proofs.Widths.{rounds_are_half_width}
-use Rattle.laws.proofs.Tests.{either_true, either_false}
 
 -- A pair with as many leasts as ceilings.
 abbrev pub Even : Pair → Type 0
@@ -52,33 +51,33 @@ module _ (p : Pair) (n : ℕ) (c : Pair) (h : Held p n c) where
       subst (λ (y : Pair). HalfWidth (figures_of whole y)) (sym h.figures)
       (subst (λ (y : Curves ℤ). HalfWidth y) exact (rounds_are_half_width p n b run))
 
-  module _ (uncrossed : ¬ Crossed cut_off c) (done : Bool) (next : Pair) (a : Advanced c done next) where
-    next_even : Even next
-    next_even = subst Even (sym a.figures) (round_full cut_off c)
+  module _ (uncrossed : ¬ Crossed cut_off c) (next : Pair) where
+    still_uncrossed : ¬ Crossed cut_off (after cut_off n p)
+    still_uncrossed = subst (λ (y : Pair). ¬ Crossed cut_off y) h.figures uncrossed
 
-    pub arrives : done ≡ true → Arrives cut_off p n next
-    arrives t =
-        let e : next ≡ c = either_true _ _ done t a.told in
+    next_even : next ≡ round cut_off c → Even next
+    next_even e = subst Even (sym e) (round_full cut_off c)
+
+    pub arrives : Advanced c true next → Arrives cut_off p n next
+    arrives a =
         record {
           runs = h.runs;
-          uncrossed = subst (λ (y : Pair). ¬ Crossed cut_off y) h.figures uncrossed;
-          settled = subst (λ (y : Pair). Settled cut_off y) h.figures (as_same (sym a.figures ∙ e));
-          figures = as_same (sym h.figures ∙ sym e ∙ sym (given_self next next_even));
+          uncrossed = still_uncrossed;
+          settled = subst (λ (y : Pair). Settled cut_off y) h.figures (as_same (sym a.figures ∙ a.told));
+          figures = as_same (sym h.figures ∙ sym a.told ∙ sym (given_self next (next_even a.figures)));
         }
 
-    unsettled : done ≡ false → ¬ Settled cut_off c
-    unsettled f s =
-        either_false (next ≡ c) _ done f a.told (a.figures ∙ full_same 0 (round cut_off c) c (round_full cut_off c) h.even s)
-
-    pub goes_on : done ≡ false → Held p (n + 1) next
+    pub goes_on : Advanced c false next → Held p (n + 1) next
     unfolding after
-    goes_on f =
+    goes_on a =
+        let unsettled : ¬ Settled cut_off c =
+        λ s. a.told (a.figures ∙ full_same 0 (round cut_off c) c (round_full cut_off c) h.even s) in
         record {
           runs =
               record {
-                uncrossed = below_more _ n h.runs.uncrossed (subst (λ (y : Pair). ¬ Crossed cut_off y) h.figures uncrossed);
-                changes = below_more _ n h.runs.changes (subst (λ (y : Pair). ¬ Settled cut_off y) h.figures (unsettled f));
+                uncrossed = below_more _ n h.runs.uncrossed still_uncrossed;
+                changes = below_more _ n h.runs.changes (subst (λ (y : Pair). ¬ Settled cut_off y) h.figures unsettled);
               };
           figures = a.figures ∙ ap (round cut_off) h.figures ∙ rw add-one;
-          even = next_even;
+          even = next_even a.figures;
         }

@@ -1,18 +1,19 @@
 -- Closing with room for the closure of every horizon, as openings ask for it: question 3 is answered yes, so 1, 2, 4 and 5 decide.
 -- Assumes nothing.
-use Rattle.laws.proofs.Base.{ℕ, ◌≤◌, ◌≡◌, refl, sym, ap, ◌∙◌, subst, List, [], ◌∷◌, ◌⊎◌, inl, inr, ⊎_elim, arith, replicate}
+use Rattle.std.specs.Prelude.{Result, Ok, Err}
+use Rattle.laws.proofs.Base.{ℕ, ◌≤◌, ◌≡◌, refl, sym, ap, ◌∙◌, subst, List, ◌⊎◌, inl, inr, ⊎_elim, arith, replicate}
 use Rattle.laws.proofs.Base.{length-replicate}
-use types.Run.{OneOf, miss}
-use denote.Enum.Declared.{tag_of}
 use Rattle.curves.specs.Pairs.{Pair, pair_of, horizon}
 use Rattle.curves.specs.Rounds.{whole, Arrives}
 use Rattle.curves.specs.Unlimited.{AnyPair, limited, curves_of}
 use Rattle.curves.specs.Questions.{AllYes, FirstNo}
 use Rattle.curves.specs.Theorems.{Closes}
 use Rattle.bounds.specs.Bounds.{max_horizon, pair_questions, RoomFor}
-use Rattle.closure.specs.declared.Closing.{Closing}
-use Rattle.closure.specs.declared.Closing.TheVariants.{Closed, UpperLength, LowerLength, ResultLength, FigureLimit, NoClosure}
-use Rattle.closure.specs.contracts.Closing as the-closing
+use Rattle.bounds.specs.declared.PairRefusal.TheVariants.{UpperLength, LowerLength, FigureLimit}
+use Rattle.bounds.specs.Answers.{pair_refusal_number}
+use Rattle.closure.specs.declared.Closed.{Closed}
+use Rattle.closure.specs.declared.ClosingRefusal.{ClosingRefusal}
+use Rattle.closure.specs.declared.ClosingRefusal.TheVariants as refusal
 use Rattle.closure.specs.Closing.{closing_questions, ClosingAnswer, closing}
 use Rattle.closure.specs.Answers.{closing_answer}
 use Rattle.closure.specs.Theorems.{PassesFour, GivesClosure, closure_of, room}
@@ -43,13 +44,11 @@ module _ (c : Pair) where
   in_zeros a us ls u l e = e ∙ (λ i. closing p (pair_of (u i) (l i)))
 
   -- ---- what each answer tells of the pair
-  abbrev pub Told : Closing → Type 0
-  Told (Closed n b) = AllYes (pair_questions p) × ((q : Pair) × Arrives whole c n q)
-  Told UpperLength = FirstNo (pair_questions p) 1
-  Told LowerLength = FirstNo (pair_questions p) 2
-  Told ResultLength = ⊥
-  Told FigureLimit = FirstNo (pair_questions p) 4
-  Told NoClosure = AllYes (pair_questions p) × (¬ Closes c)
+  abbrev pub Told : Result Closed ClosingRefusal → Type 0
+  Told (Ok k) = AllYes (pair_questions p) × ((q : Pair) × Arrives whole c k.rounds q)
+  Told (Err (refusal.Pair r)) = FirstNo (pair_questions p) (pair_refusal_number r)
+  Told (Err refusal.ResultLength) = ⊥
+  Told (Err refusal.NoClosure) = AllYes (pair_questions p) × (¬ Closes c)
 
   -- n is the first no of the pair's own questions, or these are all answered yes and it is 5.
   abbrev No : ℕ → Type 0
@@ -83,8 +82,8 @@ module _ (c : Pair) where
   fifth_no : 5 ≡ (closing p room).number → AllYes (pair_questions p) × (¬ Closes c)
   fifth_no e = ⊎_elim (λ f. absurd ((own_numbers 5 f).1 refl)) (λ (five, ys, no₅). (ys, no₅)) (no_numbered 5 (omega arith) e)
 
-  pub told : (r : Closing) (left : Pair) → closing_answer r left ≡ closing p room → Told r
-  told (Closed n b) left e =
+  pub told : (r : Result Closed ClosingRefusal) (left : Pair) → closing_answer r left ≡ closing p room → Told r
+  told (Ok k) left e =
       let g : GivesClosure p room = sym (ap (λ a. a.number) e) in (
         own_yes p room (gives_passes p room g).0,
         (
@@ -92,17 +91,9 @@ module _ (c : Pair) where
           subst (λ m. Arrives whole c m (curves_of (closure_of p room))) (sym (ap (λ a. a.rounds) e)) (arrived p room g),
         ),
       )
-  told UpperLength left e = own_no 1 (omega arith) (λ z. omega arith) (ap (λ a. a.number) e)
-  told LowerLength left e = own_no 2 (omega arith) (λ z. omega arith) (ap (λ a. a.number) e)
-  told ResultLength left e = (own_numbers 3 (own_no 3 (omega arith) (λ z. omega arith) (ap (λ a. a.number) e))).0 refl
-  told FigureLimit left e = own_no 4 (omega arith) (λ z. omega arith) (ap (λ a. a.number) e)
-  told NoClosure left e = fifth_no (ap (λ a. a.number) e)
-
--- An arm for the cases that are left when 1, 2, 4 and the closure have theirs.
-pub others : (P : Closing → Type 0) → P ResultLength → P NoClosure → (c : Closing) → OneOf (3 ∷ 5 ∷ []) (tag_of the-closing.the_type c) → P c
-others P a b (Closed n d) m = absurd (miss (3 ∷ 5 ∷ []) 0 tt m)
-others P a b UpperLength m = absurd (miss (3 ∷ 5 ∷ []) 1 tt m)
-others P a b LowerLength m = absurd (miss (3 ∷ 5 ∷ []) 2 tt m)
-others P a b ResultLength m = a
-others P a b FigureLimit m = absurd (miss (3 ∷ 5 ∷ []) 4 tt m)
-others P a b NoClosure m = b
+  told (Err (refusal.Pair UpperLength)) left e = own_no 1 (omega arith) (λ z. omega arith) (ap (λ a. a.number) e)
+  told (Err (refusal.Pair LowerLength)) left e = own_no 2 (omega arith) (λ z. omega arith) (ap (λ a. a.number) e)
+  told (Err (refusal.Pair FigureLimit)) left e = own_no 4 (omega arith) (λ z. omega arith) (ap (λ a. a.number) e)
+  told (Err refusal.ResultLength) left e =
+      (own_numbers 3 (own_no 3 (omega arith) (λ z. omega arith) (ap (λ a. a.number) e))).0 refl
+  told (Err refusal.NoClosure) left e = fifth_no (ap (λ a. a.number) e)

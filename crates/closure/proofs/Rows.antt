@@ -1,15 +1,15 @@
 -- Rows: what stands where in one, and how one is filled. Assumes nothing.
-use Rattle.laws.proofs.Base.{ℕ, ◌+◌, ◌-◌, ◌≤◌, ◌<◌, min, ◌≡◌, sym, ap, ◌∙◌, subst, List, dec_le, dec_lt, add-one, arith}
+use Rattle.laws.proofs.Base.{ℕ, ◌+◌, ◌-◌, ◌≤◌, ◌<◌, ◌≡◌, sym, ap, ◌∙◌, subst, List, dec_le, dec_lt, add-one, arith}
 use Rattle.laws.proofs.Base.{length, get_or, set, replicate, length-set, length-replicate}
 use lib.ListN.{get_or-replicate, get_or-eq_default}
 use lib.Seq.{get_or-set_same, get_or-set_other}
+use Rattle.laws.proofs.Table.{Filled, later}
 use Rattle.curves.specs.Pairs.{figure}
 use Rattle.bounds.specs.Bounds.{figure_limit, Bounded}
-use Rattle.closure.specs.Widths.{sum_limit}
-use Rattle.closure.specs.Steps.{no_figure, in_row, Normal, IsRow, WithinOfTwo, RowOf}
+use Rattle.closure.specs.Steps.{no_figure, NoneAbove, in_row, IsRow}
 
 -- What holds of each window's figure in a row, and of the filler, holds of every entry.
-pub entries : (P : ℕ → Type 0) {H : ℕ} {row : List ℕ} → IsRow H row → P no_figure → ((d : ℕ) → 1 ≤ d → d ≤ H → P (in_row row d))
+entries : (P : ℕ → Type 0) {H : ℕ} {row : List ℕ} → IsRow H row → P no_figure → ((d : ℕ) → 1 ≤ d → d ≤ H → P (in_row row d))
     → (i : ℕ) → i < length row → P (get_or row i 0)
 entries P {H} {row} r filler figures i l =
     elim (dec_lt i 4) [
@@ -23,21 +23,13 @@ entries P {H} {row} r filler figures i l =
           ]
     ]
 
--- What two rows have at any places has a sum that is normal, where the sums of their figures keep a limit.
-module _ (n : ℕ) (small : n ≤ sum_limit) {H : ℕ} {own other : List ℕ} (r : IsRow H own) (r' : IsRow H other)
-    (within : WithinOfTwo n H own other) where
-  pub sum_normal : (i j : ℕ) → i < length own → j < length other → Normal (get_or own i 0 + get_or other j 0)
-  sum_normal i j l m =
-      entries (λ x. Normal (x + get_or other j 0)) r
-      (entries (λ y. Normal (no_figure + y)) r' (omega arith, omega arith)
-      (λ d p q. (omega arith, omega (arith, within d d p q p q))) j m)
-      (λ a p q.
-      entries (λ y. Normal (in_row own a + y)) r' (omega arith, omega (arith, within a a p q p q))
-      (λ b u v. (omega (arith, within a b p q u v), omega (arith, within a b p q u v))) j m)
-      i l
-
-pub smaller_normal : {a b r : ℕ} → Normal a → Normal b → r ≡ min a b → Normal r
-smaller_normal h k e = (omega (arith, h.0, k.0, e), omega (arith, h.1, e))
+-- No entry of a row is above the filler, where none of its figures is.
+pub row_small : {H : ℕ} {row : List ℕ} → IsRow H row → ((d : ℕ) → 1 ≤ d → d ≤ H → in_row row d ≤ no_figure) → NoneAbove no_figure row
+row_small {H} {row} r small i =
+    elim (dec_lt i (length row)) [
+      | yes h ↦ entries (λ x. x ≤ no_figure) r (omega arith) small i h
+      | no h ↦ omega (arith, get_or-eq_default row 0 {n = i} (omega arith))
+    ]
 
 -- The length of every row that is made.
 abbrev pub row_length : ℕ
@@ -77,21 +69,14 @@ figure_put {f} {i} {row} t v h e =
       back = λ j k l. get_or-set_other row (i + 4) j v 0 (λ s. omega arith) ∙ t.back j (omega arith) l;
     }
 
-pub rowed_whole : {f : ℕ → ℕ} {i : ℕ} {row : List ℕ} → Rowed f i row → (H : ℕ) → i ≡ H → H ≤ 256 → RowOf f H row
-rowed_whole {f} {i} {row} t H e h = (
-  record {
-    short = h;
-    long = omega (arith, t.whole);
-    front = t.front;
-    back = λ j k l. t.back j (omega arith) (omega (arith, t.whole));
-  },
-  (λ d p q. t.figures d p (omega arith)),
-)
-
 -- The entry of a list at i is the figure of i + 1 ticks.
 pub entry_figure : (us : List ℕ) (i : ℕ) → get_or us i 0 ≡ figure 0 us (i + 1)
 unfolding figure
 entry_figure us i = rw (add-one i)
+
+-- What a loop that fills the list has not come to yet.
+pub unfilled_figure : {f : ℕ → ℕ} {us out : List ℕ} {i : ℕ} → Filled f us out i → get_or out i 0 ≡ figure 0 us (i + 1)
+unfilled_figure {f} {us} {out} {i} t = later t i (omega arith) ∙ entry_figure us i
 
 pub entry_bounded : (us : List ℕ) → Bounded us → (i : ℕ) → get_or us i 0 ≤ figure_limit
 entry_bounded us b i =

@@ -1,10 +1,13 @@
 -- Leasts without ceilings: the pair whose rounds are run for them, how these end, and when leasts are super-additive. Assumes nothing.
-use Rattle.laws.proofs.Base.{ℕ, zero, suc, ◌+◌, ◌-◌, ◌*◌, ◌≤◌, ◌<◌, ◌≡◌, refl, sym, ap, ◌∙◌, Bool, List, [], ◌∷◌, ◌++◌, dec_le, arith}
-use Rattle.laws.proofs.Base.{length, take}
+use Rattle.laws.proofs.Base.{ℕ, zero, suc, ◌+◌, ◌-◌, ◌*◌, ◌≤◌, ◌<◌, ◌≡◌, refl, sym, ap, ◌∙◌, Bool, true, false, List, [], ◌∷◌, ◌++◌, dec_le, zero-add, arith}
+use Rattle.laws.proofs.Base.{length, take, get_or, subst, subst⁻¹}
 use lib.Seq.{take-append-le, take_all}
+use Rattle.std.specs.Prelude.{Option, Some, None, IsSome}
+use Rattle.std.specs.Bool.{MatchBool}
+use Rattle.std.specs.List.{range_with_len, AllWithin, HoldsAt}
+use Rattle.std.proofs.lemmas.List.FromFn.{length-range_with_len, get_or-range_with_len}
 use Rattle.laws.specs.Ranges.{table}
 use Rattle.laws.specs.Tests.{Tells}
-use Rattle.laws.proofs.Tests.{tells_same}
 use Rattle.laws.proofs.Table.{length-table}
 use Rattle.curves.specs.Pairs.{Pair, pair_of, figure}
 use Rattle.curves.specs.Unlimited.{highest, SuperAdditive}
@@ -13,10 +16,8 @@ use Rattle.curves.proofs.Agreement.{cut_off_arrives, cut_off_crosses}
 use Rattle.curves.proofs.Parts.{leasts_arrive}
 use Rattle.curves.proofs.Standing.{standing_never_crosses}
 use Rattle.bounds.specs.Bounds.{max_horizon}
-use Rattle.closure.specs.declared.Closing.{Closing}
-use Rattle.closure.specs.declared.Closing.TheVariants.{Closed, UpperLength, LowerLength, ResultLength, FigureLimit, NoClosure}
 use Rattle.closure.specs.Closing.{least_limit}
-use Rattle.closure.specs.Steps.{Fit, Ended, LeastsFit, LeastsEnded, unlimited_as, ReachesParts}
+use Rattle.closure.specs.Steps.{Fit, Ended, LeastsFit, LeastsEnded, ReachesParts}
 
 -- The first entries of a table are a table.
 take-table : (f : ℕ → ℕ) (m n : ℕ) → n ≤ m → take n (table f m) ≡ table f n
@@ -31,27 +32,26 @@ take-table f (suc m) n h =
     ]
 
 -- ---- the pair whose rounds are run
-abbrev pub stood : List ℕ → Pair
+abbrev stood : List ℕ → Pair
 stood ls = pair_of (table (λ d. d * least_limit) (length ls)) ls
 
-abbrev pub stand_ins : List ℕ
-stand_ins = table (λ d. d * least_limit) max_horizon
+module _ (ls found : List ℕ) (fit : LeastsFit ls found) (us : List ℕ) (e : us ≡ table (λ d. d * least_limit) max_horizon) where
+  -- It has the stand-ins up to the horizon.
+  abbrev lent : Pair
+  lent = pair_of (take (length ls) us) ls
 
-module _ (ls found : List ℕ) (fit : LeastsFit ls found) where
-  -- An array of the stand-ins, up to the horizon.
-  pub stood_is : (us : List ℕ) → us ≡ stand_ins → pair_of (take (length ls) us) ls ≡ stood ls
-  stood_is us e =
-      ap (λ us. pair_of (take (length ls) us) ls) e
-      ∙ ap (λ us. pair_of us ls) (take-table (λ d. d * least_limit) max_horizon (length ls) fit.short)
+  lent_is : stood ls ≡ lent
+  lent_is =
+      sym
+      (ap (λ us. pair_of (take (length ls) us) ls) e
+      ∙ ap (λ us. pair_of us ls) (take-table (λ d. d * least_limit) max_horizon (length ls) fit.short))
 
-  pub stood_long : (us : List ℕ) → us ≡ stand_ins → length ls ≡ length (take (length ls) us)
-  stood_long us e = sym (ap (λ p. length p.upper) (stood_is us e) ∙ length-table (λ d. d * least_limit) (length ls))
-
-  pub stood_fit : (us : List ℕ) → length us ≡ length ls → Fit (stood ls) (pair_of us found)
-  stood_fit us e =
+  pub stood_fit : (room : List ℕ) → length room ≡ length ls → Fit lent (pair_of room found)
+  stood_fit room l =
       let long = length-table (λ d. d * least_limit) (length ls) in
       let short = fit.short in
-      let room = fit.room in (
+      let same = fit.room in
+      subst (λ (p : Pair). Fit p (pair_of room found)) lent_is (
         omega arith,
         (
           (omega arith, (omega arith, (omega arith, tt))),
@@ -62,35 +62,56 @@ module _ (ls found : List ℕ) (fit : LeastsFit ls found) where
         ),
       )
 
-  -- They arrive, as those of the leasts alone do, and the answer tells that there are no ceilings.
-  pub stood_ended : (us left : List ℕ) (before : Pair) (r : Closing) → Ended (stood ls) r before (pair_of us left)
-      → LeastsEnded ls (unlimited_as r) left
-  stood_ended us left before (Closed n b) e =
-      let at = (cut_off_arrives (stood ls) n (pair_of us left)).1 e.1 in
-      (refl, (highest (length ls), leasts_arrive least_limit ls n (pair_of us left) (omega arith) fit.within at))
-  stood_ended us left before UpperLength e = absurd e
-  stood_ended us left before LowerLength e = absurd e
-  stood_ended us left before ResultLength e = absurd e
-  stood_ended us left before FigureLimit e = absurd e
-  stood_ended us left before NoClosure e =
-      absurd (standing_never_crosses least_limit ls e.0.0 fit.within ((cut_off_crosses (stood ls) e.0.0).1 e.0.1))
+  -- Its rounds arrive, as those of the leasts alone do.
+  ended : (r : Option ℕ) (before : Pair) (closed left : List ℕ) → Ended (stood ls) r before (pair_of closed left)
+      → IsSome r × ((n : ℕ) → r ≡ Some n → LeastsEnded ls n left)
+  ended (Some m) before closed left h =
+      let arrived : LeastsEnded ls m left = (
+        highest (length ls),
+        leasts_arrive least_limit ls m (pair_of closed left) (omega arith) fit.within
+            ((cut_off_arrives (stood ls) m (pair_of closed left)).1 h),
+      ) in
+      (refl, λ n is. let same : m ≡ n = cc in subst (λ (k : ℕ). LeastsEnded ls k left) same arrived)
+  ended None before closed left h =
+      absurd (standing_never_crosses least_limit ls h.0.0 fit.within ((cut_off_crosses (stood ls) h.0.0).1 h.0.1))
+
+  pub stood_ended : (r : Option ℕ) (before : Pair) (closed left : List ℕ) → Ended lent r before (pair_of closed left)
+      → IsSome r × ((n : ℕ) → r ≡ Some n → LeastsEnded ls n left)
+  stood_ended r before closed left h =
+      ended r before closed left (subst⁻¹ (λ (p : Pair). Ended p r before (pair_of closed left)) lent_is h)
 
 -- ---- super-additive, by the windows' indices
-pub parts-told :
-    (ls : List ℕ) (i : ℕ) (b : Bool) → i ≡ length ls → Tells b ((k : ℕ) → k < i → ReachesParts ls k) → Tells b (SuperAdditive ls)
-unfolding figure
-parts-told ls i b e t = tells_same b (there, back) t
-  where
-    there : ((k : ℕ) → k < i → ReachesParts ls k) → SuperAdditive ls
-    there h zero b u v w = absurd (omega arith)
-    there h (suc a) zero u v w = absurd (omega arith)
-    there h (suc a) (suc b) u v w =
-        let k : suc (a + b) - a ≡ suc b = omega arith in
-        let at : (suc (a + b)) - 1 - a ≡ b = omega arith in
-        let to : suc a + suc b ≡ suc (suc (a + b)) = omega arith in
-        rw to (rw at at (h (suc (a + b)) (omega arith) a (omega arith)))
+module _ (ls : List ℕ) where
+  abbrev windows : List ℕ
+  windows = range_with_len 0 (length ls)
 
-    back : SuperAdditive ls → (k : ℕ) → k < i → ReachesParts ls k
-    back h k l a m =
-        let to : suc a + suc (k - 1 - a) ≡ suc k = omega arith in
-        rw to at (h (suc a) (suc (k - 1 - a)) (omega arith) (omega arith) (omega arith))
+  there : ((k : ℕ) → k < length ls → ReachesParts ls k) → SuperAdditive ls
+  unfolding figure
+  there h zero b u v w = absurd (omega arith)
+  there h (suc a) zero u v w = absurd (omega arith)
+  there h (suc a) (suc b) u v w =
+      let k : suc (a + b) - a ≡ suc b = omega arith in
+      let at : (suc (a + b)) - 1 - a ≡ b = omega arith in
+      let to : suc a + suc b ≡ suc (suc (a + b)) = omega arith in
+      rw to (rw at at (h (suc (a + b)) (omega arith) a (omega arith)))
+
+  back : SuperAdditive ls → (k : ℕ) → k < length ls → ReachesParts ls k
+  unfolding figure
+  back h k l a m =
+      let to : suc a + suc (k - 1 - a) ≡ suc k = omega arith in
+      rw to at (h (suc a) (suc (k - 1 - a)) (omega arith) (omega arith) (omega arith))
+
+  -- The entry of the windows at k is k.
+  window_at : (k : ℕ) → k < length ls → get_or windows k 0 ≡ k
+  window_at k l = get_or-range_with_len 0 (length ls) k 0 l ∙ zero-add k
+
+  pub parts-told : (r : Bool)
+      → MatchBool r (AllWithin (ReachesParts ls) windows 0 (length windows))
+      ((k : ℕ) × (k < length windows) × HoldsAt (λ i. ¬ ReachesParts ls i) windows k)
+      → Tells r (SuperAdditive ls)
+  parts-told true all =
+      there (λ k l.
+      subst (ReachesParts ls) (window_at k l) (all k 0 (omega arith) (omega (arith, length-range_with_len 0 (length ls)))))
+  parts-told false (k, l, at) =
+      let l' : k < length ls = omega (arith, length-range_with_len 0 (length ls)) in
+      λ s. subst (λ (i : ℕ). ¬ ReachesParts ls i) (window_at k l') (at 0) (back s k l')

@@ -1,22 +1,24 @@
 -- Laws over plain lists for a round of one curve in 32 bits: how large its entries can be, and that they are the new figures, lifted.
 -- Assumes nothing.
-use Rattle.laws.proofs.Base.{ℕ, suc, ◌+◌, ◌-◌, ◌≤◌, ◌<◌, min, max, ◌≡◌, sym, ap, ◌∙◌, subst, List, dec_lt, arith, length, get_or}
+use Rattle.laws.proofs.Base.{ℕ, suc, ◌+◌, ◌-◌, ◌≤◌, min, max, ◌≡◌, sym, ap, ◌∙◌, subst, List, dec_lt, arith, length}
 use lib.ListN.{get_or-eq_default}
 use Rattle.laws.specs.Ranges.{fold, table}
-use Rattle.laws.proofs.Best.{fold-map, fold_first, fold_both, min_best}
+use Rattle.laws.proofs.Best.{fold-map, fold_first, min_best}
 use Rattle.laws.proofs.Table.{length-table, get_or-table, table_same}
 use Rattle.curves.specs.Pairs.{figure}
 use Rattle.curves.specs.Rounds.{cut_off, new_figure}
 use Rattle.curves.proofs.Figures.{figure_table}
-use Rattle.closure.specs.Steps.{lift, no_figure, smallest_normal, AllComparable, NoneAbove, in_row, IsRow, RowOf}
+use Rattle.closure.specs.Steps.{lift, no_figure, NoneAbove, in_row, IsRow, RowOf}
 use Rattle.closure.specs.Steps.{SumsWithin, DifferencesWithin}
 use Rattle.closure.specs.Steps.{begun, convolved, tightened}
 
--- What holds of every figure of a table holds of its entries.
-table_entries : (P : ℕ → Type 0) (f : ℕ → ℕ) (H : ℕ) → ((d : ℕ) → 1 ≤ d → d ≤ H → P (f d)) → (i : ℕ) → i < length (table f H)
-    → P (get_or (table f H) i 0)
-table_entries P f H h i l =
-    let within : i < H = omega (arith, length-table f H) in rw (get_or-table f H i 0 within) (h (suc i) (omega arith) within)
+-- No entry of a table is above a number that none of its figures is.
+table_small : (n : ℕ) (f : ℕ → ℕ) (H : ℕ) → ((d : ℕ) → 1 ≤ d → d ≤ H → f d ≤ n) → NoneAbove n (table f H)
+table_small n f H h i =
+    elim (dec_lt i H) [
+      | yes l ↦ rw (get_or-table f H i 0 l) (h (suc i) (omega arith) l)
+      | no l ↦ omega (arith, get_or-eq_default (table f H) 0 {n = i} (omega (arith, length-table f H)))
+    ]
 
 module _ (own other : List ℕ) (H : ℕ) where
   -- The best of d ticks after the sums, and at the end.
@@ -54,49 +56,36 @@ module _ (own other : List ℕ) (H : ℕ) where
       )
 
   pub tightened_small : (n : ℕ) → ((d : ℕ) → 1 ≤ d → d ≤ H → in_row own d + lift ≤ n) → NoneAbove n (tightened own other H)
-  tightened_small n b i =
-      elim (dec_lt i (length (table tightest H))) [
-        | yes h ↦
-            rw tightened_is
-            (table_entries (λ x. x ≤ n) tightest H (λ d p q. omega (arith, tightest_below d, b d p q)) i h)
-        | no h ↦ rw tightened_is (omega (arith, get_or-eq_default (table tightest H) 0 {n = i} (omega arith)))
-      ]
+  tightened_small n b =
+      rw tightened_is (table_small n tightest H (λ d p q. omega (arith, tightest_below d, b d p q)))
 
   -- So both passes can be run.
-  abbrev Comparable : ℕ → Type 0
-  Comparable x = (smallest_normal ≤ x) × (x ≤ no_figure)
-
   module _ (r : IsRow H own) (within : SumsWithin H own) where
-    sums_comparable : (d : ℕ) → 1 ≤ d → d ≤ H → Comparable (sums d)
-    sums_comparable d p q = (
-      fold_both ◌≤◌ min min_best (in_row own d + lift) _ smallest_normal (d - 1) (omega arith)
-          (λ a u v. omega (arith, within a (d - a) u (omega arith) (omega arith) (omega arith))),
-      omega (
-        arith,
-        fold_first ◌≤◌ min min_best (in_row own d + lift) (λ a. in_row own a + in_row own (d - a)) (d - 1),
-        within d d p q p q,
-      ),
-    )
+    own_small : (d : ℕ) → 1 ≤ d → d ≤ H → in_row own d + lift ≤ no_figure
+    own_small d p q = omega (arith, within d d p q p q)
 
-    pub after_own : (x : List ℕ) → x ≡ begun own H → IsRow (length x) own × SumsWithin (length x) own × AllComparable x
+    sums_small : (d : ℕ) → 1 ≤ d → d ≤ H → sums d ≤ no_figure
+    sums_small d p q =
+        omega (
+          arith,
+          fold_first ◌≤◌ min min_best (in_row own d + lift) (λ a. in_row own a + in_row own (d - a)) (d - 1),
+          own_small d p q,
+        )
+
+    pub after_own : (x : List ℕ) → x ≡ begun own H → IsRow (length x) own × SumsWithin (length x) own × NoneAbove no_figure x
     after_own x e =
         let long : H ≡ length x = sym (ap length e ∙ begun-length) in (
           subst (λ (n : ℕ). IsRow n own) long r,
           subst (λ (n : ℕ). SumsWithin n own) long within,
-          subst (λ (l : List ℕ). AllComparable l) (sym e)
-              (table_entries Comparable _ H (λ d p q. (omega arith, omega (arith, within d d p q p q)))),
+          subst (λ (l : List ℕ). NoneAbove no_figure l) (sym e) (table_small no_figure _ H own_small),
         )
 
-    pub after_convolve : (x y : List ℕ) → IsRow H other → DifferencesWithin H own other → x ≡ begun own H → y ≡ convolved own x
-        → (IsRow (length y) own × IsRow (length y) other) × (DifferencesWithin (length y) own other × AllComparable y)
-    after_convolve x y r' within' e f =
-        let is : y ≡ table sums H = f ∙ ap (convolved own) e ∙ convolved_is in
-        let long : H ≡ length y = sym (ap length is ∙ length-table sums H) in (
-          (subst (λ (n : ℕ). IsRow n own) long r, subst (λ (n : ℕ). IsRow n other) long r'),
-          (
-            subst (λ (n : ℕ). DifferencesWithin n own other) long within',
-            subst (λ (l : List ℕ). AllComparable l) (sym is) (table_entries Comparable sums H sums_comparable),
-          ),
+    pub after_convolve : (x y : List ℕ) → DifferencesWithin H own other → x ≡ begun own H → y ≡ convolved own x
+        → DifferencesWithin (length y) own other × NoneAbove no_figure y
+    after_convolve x y within' e f =
+        let is : y ≡ table sums H = f ∙ ap (convolved own) e ∙ convolved_is in (
+          subst (λ (n : ℕ). DifferencesWithin n own other) (sym (ap length is ∙ length-table sums H)) within',
+          subst (λ (l : List ℕ). NoneAbove no_figure l) (sym is) (table_small no_figure sums H sums_small),
         )
 
 -- ---- what it is, of the ceilings u and the leasts l

@@ -1,36 +1,32 @@
--- Document 01's number and values for each case of `Closing`.
-use Rattle.std.specs.Prelude.{ℕ, Bool, false}
+-- Document 01's number for each case of `ClosingRefusal`, and what closing's result answers.
+use Rattle.std.specs.Prelude.{ℕ, Bool, false, Result, Ok, Err}
 use Rattle.curves.specs.Pairs.{Pair}
-use Rattle.closure.specs.declared.Closing.{Closing}
-use Rattle.closure.specs.declared.Closing.TheVariants.{Closed, UpperLength, LowerLength, ResultLength, FigureLimit, NoClosure}
+use Rattle.bounds.specs.Answers.{pair_refusal_number}
+use Rattle.closure.specs.declared.Closed.{Closed}
+use Rattle.closure.specs.declared.ClosingRefusal.{ClosingRefusal}
+use Rattle.closure.specs.declared.ClosingRefusal.TheVariants as refusal
 use Rattle.closure.specs.Closing.{ClosingAnswer}
 
-abbrev pub closing_number : Closing → ℕ
-closing_number (Closed n b) = 0
-closing_number UpperLength = 1
-closing_number LowerLength = 2
-closing_number ResultLength = 3
-closing_number FigureLimit = 4
-closing_number NoClosure = 5
+abbrev pub closing_refusal_number : ClosingRefusal → ℕ
+closing_refusal_number (refusal.Pair r) = pair_refusal_number r
+closing_refusal_number refusal.ResultLength = 3
+closing_refusal_number refusal.NoClosure = 5
+
+-- 0 where a closure is given.
+abbrev pub closing_number : Result Closed ClosingRefusal → ℕ
+closing_number (Ok c) = 0
+closing_number (Err r) = closing_refusal_number r
 
 -- The rounds that are counted; 0 on a refusal.
-abbrev pub closing_rounds : Closing → ℕ
-closing_rounds (Closed n b) = n
-closing_rounds UpperLength = 0
-closing_rounds LowerLength = 0
-closing_rounds ResultLength = 0
-closing_rounds FigureLimit = 0
-closing_rounds NoClosure = 0
+abbrev pub closing_rounds : Result Closed ClosingRefusal → ℕ
+closing_rounds (Ok c) = c.rounds
+closing_rounds (Err r) = 0
 
 -- The mark; not set on a refusal.
-abbrev pub closing_mark : Closing → Bool
-closing_mark (Closed n b) = b
-closing_mark UpperLength = false
-closing_mark LowerLength = false
-closing_mark ResultLength = false
-closing_mark FigureLimit = false
-closing_mark NoClosure = false
+abbrev pub closing_mark : Result Closed ClosingRefusal → Bool
+closing_mark (Ok c) = c.unlimited
+closing_mark (Err r) = false
 
--- What a call that returns this case, and leaves the result lists so, has answered.
-abbrev pub closing_answer : Closing → Pair → ClosingAnswer
+-- What a call that returns this, and leaves the result lists so, has answered.
+abbrev pub closing_answer : Result Closed ClosingRefusal → Pair → ClosingAnswer
 closing_answer r left = record { number = closing_number r; rounds = closing_rounds r; unlimited = closing_mark r; results = left }

@@ -1,5 +1,5 @@
 -- What the private functions of this crate promise each other. `close`'s promise cites nothing of it.
-use Rattle.std.specs.Prelude.{ℕ, ◌+◌, ◌-◌, ◌≤◌, ◌<◌, min, ◌≡◌, Bool, true, false, List, [], ◌∷◌, length, get_or}
+use Rattle.std.specs.Prelude.{ℕ, ◌+◌, ◌-◌, ◌≤◌, ◌<◌, min, ◌≡◌, Bool, true, false, Option, Some, None, List, [], ◌∷◌, length, get_or}
 use Rattle.laws.specs.Ranges.{fold, table}
 use Rattle.laws.specs.Tests.{Tells, Each}
 use Rattle.curves.specs.Pairs.{Pair, pair_of, horizon, figure, FiguresWithin}
@@ -9,11 +9,6 @@ use Rattle.curves.specs.Theorems.{leasts_only}
 use Rattle.bounds.specs.Bounds.{max_horizon, figure_limit}
 use Rattle.closure.specs.Closing.{least_limit}
 use Rattle.closure.specs.Widths.{sum_limit, EveryTwo, HalfWidth}
-use Rattle.closure.specs.declared.Closing.{Closing}
-use Rattle.closure.specs.declared.Closing.TheVariants as closing
-use Rattle.closure.specs.declared.convolution.Four.{Four}
-use Rattle.closure.specs.declared.run.Stop.{Stop}
-use Rattle.closure.specs.declared.run.Stop.TheVariants.{Settled, Crossed}
 
 -- ---- one round
 -- The lower list and the two that are lent, as found, are as long as the upper list.
@@ -32,18 +27,6 @@ lift = 33_554_432
 -- What a row has where it has no window, above all that a window can have: 2^27.
 abbrev pub no_figure : ℕ
 no_figure = 134_217_728
-
--- The smallest number whose bits are those of a normal float, 2^23.
-abbrev pub smallest_normal : ℕ
-smallest_normal = 8_388_608
-
--- A number whose bits are those of a float that is finite, positive and normal: such numbers are in the order of their floats.
-abbrev pub Normal : ℕ → Type 0
-Normal n = (smallest_normal ≤ n) × (n < 2_139_095_040)
-
--- What stands for a window while its figure is looked for: a normal number that no place without a window undercuts.
-abbrev pub AllComparable : List ℕ → Type 0
-AllComparable xs = (i : ℕ) → i < length xs → (smallest_normal ≤ get_or xs i 0) × (get_or xs i 0 ≤ no_figure)
 
 -- No entry of a list is above the number.
 abbrev pub NoneAbove : ℕ → List ℕ → Type 0
@@ -76,34 +59,21 @@ DifferencesWithin H own other = WithinOfTwo figure_limit H own other
 abbrev pub RowOf : (ℕ → ℕ) → ℕ → List ℕ → Type 0
 RowOf f H row = IsRow H row × ((d : ℕ) → 1 ≤ d → d ≤ H → in_row row d ≡ f d)
 
--- The four entries of a list from a place on, and the same from the last of them back.
-abbrev pub rising : List ℕ → ℕ → Four
-rising xs at = record { first = get_or xs at 0; second = get_or xs (at + 1) 0; third = get_or xs (at + 2) 0; fourth = get_or xs (at + 3) 0 }
-
-abbrev pub falling : List ℕ → ℕ → Four
-falling xs at = record { first = get_or xs (at + 3) 0; second = get_or xs (at + 2) 0; third = get_or xs (at + 1) 0; fourth = get_or xs at 0 }
-
--- The row's four entries from i on, each plus its number, are normal.
-abbrev pub FourNormal : List ℕ → Four → ℕ → Type 0
-FourNormal row n i =
-    Normal (get_or row i 0 + n.first)
-    × Normal (get_or row (i + 1) 0 + n.second)
-    × Normal (get_or row (i + 2) 0 + n.third)
-    × Normal (get_or row (i + 3) 0 + n.fourth)
-
--- All that a pass over a list compares is normal: its entries, and the sums of each.
-abbrev pub AllNormal : List ℕ → List ℕ → Four → Type 0
-AllNormal found row n = (i : ℕ) → i < length found → Normal (get_or found i 0) × FourNormal row n i
+-- Each entry of the row and each of the numbers can be added in 32 bits.
+abbrev pub Addable : List ℕ → List ℕ → Type 0
+Addable row numbers = NoneAbove no_figure row × NoneAbove no_figure numbers
 
 -- The smallest of x and of the row's four entries from i on, each plus its number.
-abbrev pub smallest_of_five : List ℕ → Four → ℕ → ℕ → ℕ
+abbrev pub smallest_of_five : List ℕ → List ℕ → ℕ → ℕ → ℕ
 smallest_of_five row n i x =
     min
-    (min (min (min x (get_or row i 0 + n.first)) (get_or row (i + 1) 0 + n.second)) (get_or row (i + 2) 0 + n.third))
-    (get_or row (i + 3) 0 + n.fourth)
+    (min
+    (min (min x (get_or row i 0 + get_or n 0 0)) (get_or row (i + 1) 0 + get_or n 1 0))
+    (get_or row (i + 2) 0 + get_or n 2 0))
+    (get_or row (i + 3) 0 + get_or n 3 0)
 
 -- Every entry of a list lowered so, from the row's first on.
-abbrev pub lowered_to_sums : List ℕ → Four → List ℕ → List ℕ
+abbrev pub lowered_to_sums : List ℕ → List ℕ → List ℕ → List ℕ
 lowered_to_sums row n found = table (λ d. smallest_of_five row n (d - 1) (figure 0 found d)) (length found)
 
 -- The best of each window to begin with: its own figure, lifted once more, as sums and differences are lifted twice.
@@ -137,24 +107,15 @@ pub record Advanced (c : Pair) (done : Bool) (next : Pair) : Type 0 where
   pub figures : next ≡ round cut_off c
   pub told : Tells done (next ≡ c)
 
--- Where the rounds of p stop, with the pair q then held.
-abbrev pub Stopped : Pair → Stop → Pair → Type 0
-Stopped p (Settled n) q = Arrives cut_off p n q
-Stopped p Crossed q = (n : ℕ) × Crosses cut_off p n
+-- Where the rounds of p stop, after so many that changed a figure or at a crossing, with the pair q then held.
+abbrev pub Stopped : Pair → Option ℕ → Pair → Type 0
+Stopped p (Some n) q = Arrives cut_off p n q
+Stopped p None q = (n : ℕ) × Crosses cut_off p n
 
--- The held pair is put into the lent lists, or these stay as found; and what is answered.
-abbrev pub ClosureDelivered : Stop → Pair → Pair → Closing → Pair → Type 0
-ClosureDelivered (Settled n) held found r left = (r ≡ closing.Closed n false) × (left ≡ held)
-ClosureDelivered Crossed held found r left = (r ≡ closing.NoClosure) × (left ≡ found)
-
--- How the rounds of p end, as closing answers it, with the lent lists as found and as left.
-abbrev pub Ended : Pair → Closing → Pair → Pair → Type 0
-Ended p (closing.Closed n b) found left = (b ≡ false) × Arrives cut_off p n left
-Ended p closing.UpperLength found left = ⊥
-Ended p closing.LowerLength found left = ⊥
-Ended p closing.ResultLength found left = ⊥
-Ended p closing.FigureLimit found left = ⊥
-Ended p closing.NoClosure found left = ((n : ℕ) × Crosses cut_off p n) × (left ≡ found)
+-- How the rounds of p end, with the lent lists as found and as left.
+abbrev pub Ended : Pair → Option ℕ → Pair → Pair → Type 0
+Ended p (Some n) found left = Arrives cut_off p n left
+Ended p None found left = ((n : ℕ) × Crosses cut_off p n) × (left ≡ found)
 
 -- ---- without ceilings
 -- What question 4 asks of a figure, by the mark.
@@ -169,21 +130,8 @@ pub record LeastsFit (ls found : List ℕ) : Type 0 where
   pub room : length found ≡ length ls
 
 -- How their rounds end: they always arrive.
-abbrev pub LeastsEnded : List ℕ → Closing → List ℕ → Type 0
-LeastsEnded ls (closing.Closed n b) left = (b ≡ true) × ((us : List ℕ) × Arrives whole (leasts_only ls) n (pair_of us left))
-LeastsEnded ls closing.UpperLength left = ⊥
-LeastsEnded ls closing.LowerLength left = ⊥
-LeastsEnded ls closing.ResultLength left = ⊥
-LeastsEnded ls closing.FigureLimit left = ⊥
-LeastsEnded ls closing.NoClosure left = ⊥
-
-abbrev pub unlimited_as : Closing → Closing
-unlimited_as (closing.Closed n b) = closing.Closed n true
-unlimited_as closing.UpperLength = closing.UpperLength
-unlimited_as closing.LowerLength = closing.LowerLength
-unlimited_as closing.ResultLength = closing.ResultLength
-unlimited_as closing.FigureLimit = closing.FigureLimit
-unlimited_as closing.NoClosure = closing.NoClosure
+abbrev pub LeastsEnded : List ℕ → ℕ → List ℕ → Type 0
+LeastsEnded ls n left = (us : List ℕ) × Arrives whole (leasts_only ls) n (pair_of us left)
 
 -- No two parts of the window of i + 1 ticks have more together than it has: parts of a + 1 and i − a ticks.
 abbrev pub ReachesParts : List ℕ → ℕ → Type 0

@@ -10,10 +10,13 @@ mod run;
 ghost use Rattle.std.specs.Prelude.{◌≡◌};
 ghost use Rattle.laws.specs.Tests.{Tells};
 ghost use Rattle.curves.specs.Pairs.{pair_of};
-ghost use Rattle.curves.specs.Unlimited.{with_mark, SuperAdditive};
+ghost use Rattle.curves.specs.Unlimited.{SuperAdditive};
+ghost use Rattle.bounds.specs.Answers.{curves_in};
 ghost use Rattle.closure.specs.Closing.{closing};
-ghost use Rattle.closure.specs.Answers.{closing_answer};
+ghost use Rattle.closure.specs.Answers.{closing_refusal_number, closing_answer};
 ghost use Rattle.closure.specs.Steps.{limit_for};
+
+use bounds::{Curves, PairRefusal};
 
 // The longest horizon, and the largest figure.
 const MAX_HORIZON: usize = 256;
@@ -23,60 +26,77 @@ const FIGURE_LIMIT: u32 = 16_776_960;
 // The largest least that closing takes of a pair without ceilings.
 const LEAST_LIMIT: u32 = 65_535;
 
-// What closing answers: the closure is in the result lists, or document 01's question is answered no.
-#[derive(Clone, Copy)]
-pub enum Closing {
-    // After so many rounds that changed a figure. `unlimited` is the pair's mark, and so the closure's.
-    Closed { rounds: u32, unlimited: bool },
-    // 1: the upper list is not 1 to 256 long.
-    UpperLength,
-    // 2: the lower list has another length.
-    LowerLength,
+// A closure that is given: it took so many rounds that changed a figure, and has the pair's mark.
+#[derive(Clone, Copy, PartialEq, Eq)]
+pub struct Closed {
+    pub rounds: u32,
+    pub unlimited: bool,
+}
+
+// Why there is none, by the first of questions 1 to 5 that is answered no.
+#[derive(Clone, Copy, PartialEq, Eq)]
+pub enum ClosingRefusal {
+    // 1, 2 or 4; without ceilings, 4 asks that no least is above 65,535.
+    Pair(PairRefusal),
     // 3: a result list is too short.
     ResultLength,
-    // 4: a figure is above 16,776,960; without ceilings, a least is above 65,535.
-    FigureLimit,
     // 5: the rounds end with some least above its ceiling; no unbounded stream conforms.
     NoClosure,
 }
 
-// Closes the pair of `upper` (ceilings) and `lower` (leasts), entry 0 for the window of one tick. The closure goes to the first entries of
-// `closed_upper` and `closed_lower`; the others, and on a refusal all, stay as they are. Where `unlimited` is set the pair has no ceilings:
-// `upper` gives the horizon alone, and `closed_upper` stays as it is.
+impl From<ClosingRefusal> for u32 {
+    ghost from_gives = { λ refusal number. number ≡ closing_refusal_number refusal };
+
+    fn from(refusal: ClosingRefusal) -> u32 {
+        match refusal {
+            ClosingRefusal::Pair(refusal) => u32::from(refusal),
+            ClosingRefusal::ResultLength => 3,
+            ClosingRefusal::NoClosure => 5,
+        }
+    }
+}
+
+// Closes a pair. The closure goes to the first entries of `closed_upper` and `closed_lower`; the others, and on a refusal all, stay as they
+// are. Of a pair without ceilings, `closed_upper` stays as it is.
 pub fn close(
-    upper: &[u32],
-    lower: &[u32],
-    unlimited: bool,
+    curves: Curves,
     closed_upper: &mut [u32],
     closed_lower: &mut [u32],
-) -> Closing
+) -> Result<Closed, ClosingRefusal>
     ensures { closing_answer result (pair_of closed_upper.new closed_lower.new)
-        ≡ closing (with_mark upper.now lower.now unlimited)
-        (pair_of closed_upper.old closed_lower.old) }
+        ≡ closing (curves_in curves.entry) (pair_of closed_upper.old closed_lower.old) }
 {
-    let h = upper.len();
-    if h < 1 {
-        return Closing::UpperLength;
+    let h = curves.upper.len();
+    if h < 1 || MAX_HORIZON < h {
+        return Err(ClosingRefusal::Pair(PairRefusal::UpperLength));
     }
-    if MAX_HORIZON < h {
-        return Closing::UpperLength;
+    if curves.lower.len() != h {
+        return Err(ClosingRefusal::Pair(PairRefusal::LowerLength));
     }
-    if lower.len() != h {
-        return Closing::LowerLength;
+    if closed_upper.len() < h || closed_lower.len() < h {
+        return Err(ClosingRefusal::ResultLength);
     }
-    if closed_upper.len() < h {
-        return Closing::ResultLength;
+    if !curves.within(limit_for(curves.unlimited)) {
+        return Err(ClosingRefusal::Pair(PairRefusal::FigureLimit));
     }
-    if closed_lower.len() < h {
-        return Closing::ResultLength;
+    if curves.unlimited {
+        let rounds = leasts::to_end(curves.lower, &mut closed_lower[..h]);
+        return Ok(Closed {
+            rounds,
+            unlimited: true,
+        });
     }
-    if !bounds::all_within(upper, lower, unlimited, limit_for(unlimited)) {
-        return Closing::FigureLimit;
-    }
-    if unlimited {
-        return leasts::to_end(lower, &mut closed_lower[..h]);
-    }
-    run::to_end(upper, lower, &mut closed_upper[..h], &mut closed_lower[..h])
+    let rounds = run::to_end(
+        curves.upper,
+        curves.lower,
+        &mut closed_upper[..h],
+        &mut closed_lower[..h],
+    )
+    .ok_or(ClosingRefusal::NoClosure)?;
+    Ok(Closed {
+        rounds,
+        unlimited: false,
+    })
 }
 
 // What question 4 asks of a figure.
@@ -90,11 +110,5 @@ fn limit_for(unlimited: bool) -> u32
 pub fn superadditive(lower: &[u32]) -> bool
     ensures { Tells result (SuperAdditive lower.now) }
 {
-    let mut holds = true;
-    let mut i = 0;
-    while i < lower.len() {
-        holds = holds & leasts::reaches_parts(lower, i);
-        i += 1;
-    }
-    holds
+    (0..lower.len()).all(|i| leasts::reaches_parts(lower, i))
 }

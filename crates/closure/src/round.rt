@@ -34,16 +34,15 @@ pub(crate) fn compute(upper: &[u32], lower: &[u32], new_upper: &mut [u32], new_l
     turn_back(new_lower);
 }
 
-// A row of ceilings, each plus 2^25.
+// A row of ceilings, each plus 2^25. This and the next, and the two that undo them, stay two functions: the contract of one that takes what
+// differs as a closure would have to speak of that, and would be no plainer.
 fn lifted_row(upper: &[u32]) -> [u32; ROW]
     requires { (length upper.now ≤ max_horizon) × Bounded upper.now }
     ensures { RowOf (λ d. figure 0 upper.now d + lift) (length upper.now) result }
 {
     let mut row = [NO_FIGURE; ROW];
-    let mut i = 0;
-    while i < upper.len() {
-        row[i + 4] = upper[i] + LIFT;
-        i += 1;
+    for (i, ceiling) in upper.iter().enumerate() {
+        row[i + 4] = *ceiling + LIFT;
     }
     row
 }
@@ -54,10 +53,8 @@ fn turned_row(lower: &[u32]) -> [u32; ROW]
     ensures { RowOf (λ d. lift - figure 0 lower.now d) (length lower.now) result }
 {
     let mut row = [NO_FIGURE; ROW];
-    let mut i = 0;
-    while i < lower.len() {
-        row[i + 4] = LIFT - lower[i];
-        i += 1;
+    for (i, least) in lower.iter().enumerate() {
+        row[i + 4] = LIFT - *least;
     }
     row
 }
@@ -68,21 +65,8 @@ fn unlift(list: &mut [u32])
     ensures { list.new
         ≡ table (λ d. figure 0 list.old d - (lift + lift)) (length list.old) }
 {
-    let mut i = 0;
-    while i < list.len() {
-        list[i] = unlifted(list[i]);
-        i += 1;
-    }
-}
-
-// What is left of one entry.
-fn unlifted(lifted: u32) -> u32
-    ensures { result ≡ lifted - (lift + lift) }
-{
-    if lifted < TWO_LIFTS {
-        0
-    } else {
-        lifted - TWO_LIFTS
+    for entry in list {
+        *entry = entry.saturating_sub(TWO_LIFTS);
     }
 }
 
@@ -92,9 +76,7 @@ fn turn_back(list: &mut [u32])
     ensures { list.new
         ≡ table (λ d. (lift + lift) - figure 0 list.old d) (length list.old) }
 {
-    let mut i = 0;
-    while i < list.len() {
-        list[i] = TWO_LIFTS - list[i];
-        i += 1;
+    for entry in list {
+        *entry = TWO_LIFTS - *entry;
     }
 }

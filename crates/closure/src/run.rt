@@ -1,120 +1,66 @@
-// The rounds of a pair of arrival curves, run to their end.
+// The rounds of a pair of arrival curves, run to their end. The curves are lent as two lists: a struct of two that may be changed would be
+// taken apart at each call and put together again for the next.
 
 ghost use Rattle.std.specs.Prelude.{◌≡◌, ◌≤◌, length};
 ghost use Rattle.laws.specs.Tests.{Tells};
 ghost use Rattle.curves.specs.Pairs.{pair_of};
 ghost use Rattle.curves.specs.Rounds.{cut_off, Crossed};
 ghost use Rattle.bounds.specs.Bounds.{max_horizon, Bounded};
-ghost use Rattle.closure.specs.Steps.{SameLengths, Ready, Fit, Advanced, Stopped, ClosureDelivered, Ended};
+ghost use Rattle.closure.specs.Steps.{SameLengths, Ready, Fit, Advanced, Stopped, Ended};
 
-use crate::{Closing, round};
+use crate::{MAX_HORIZON, round};
 
-// Where the rounds stop: at a closure, after so many that changed a figure, or at a least above its ceiling.
-#[derive(Clone, Copy)]
-enum Stop {
-    Settled { rounds: u32 },
-    Crossed,
-}
-
-// Runs the rounds of the pair of `upper` and `lower` in four arrays. The closure, if they arrive at one, goes to `closed_upper` and
-// `closed_lower`; else these stay as they are.
+// Runs the rounds of the pair of `upper` and `lower`, and counts those that change a figure. The closure, if they arrive at one, goes to
+// `closed_upper` and `closed_lower`. These may not be touched before the rounds have ended, so that the rounds are run in four arrays.
 pub(crate) fn to_end(
     upper: &[u32],
     lower: &[u32],
     closed_upper: &mut [u32],
     closed_lower: &mut [u32],
-) -> Closing
+) -> Option<u32>
     requires { Fit (pair_of upper.now lower.now) (pair_of closed_upper.old closed_lower.old) }
     ensures { Ended (pair_of upper.now lower.now) result
         (pair_of closed_upper.old closed_lower.old)
         (pair_of closed_upper.new closed_lower.new) }
 {
     let h = upper.len();
-    let mut held_upper = lists::zeros();
-    let mut held_lower = lists::zeros();
-    let mut new_upper = lists::zeros();
-    let mut new_lower = lists::zeros();
-    to_end_in(
-        upper,
-        lower,
-        closed_upper,
-        closed_lower,
+    let mut held_upper = [0; MAX_HORIZON];
+    let mut held_lower = [0; MAX_HORIZON];
+    let mut new_upper = [0; MAX_HORIZON];
+    let mut new_lower = [0; MAX_HORIZON];
+    held_upper[..h].copy_from_slice(upper);
+    held_lower[..h].copy_from_slice(lower);
+    let rounds = until_stop(
         &mut held_upper[..h],
         &mut held_lower[..h],
         &mut new_upper[..h],
         &mut new_lower[..h],
-    )
+    )?;
+    closed_upper.copy_from_slice(&held_upper[..h]);
+    closed_lower.copy_from_slice(&held_lower[..h]);
+    Some(rounds)
 }
 
-// Runs them in four slices: the caller's result lists may not be touched before the rounds have ended.
-fn to_end_in(
-    upper: &[u32],
-    lower: &[u32],
-    closed_upper: &mut [u32],
-    closed_lower: &mut [u32],
-    held_upper: &mut [u32],
-    held_lower: &mut [u32],
-    new_upper: &mut [u32],
-    new_lower: &mut [u32],
-) -> Closing
-    requires fit { Fit (pair_of upper.now lower.now) (pair_of closed_upper.old closed_lower.old) }
-    requires held_upper_len { length held_upper.old ≡ length upper.now }
-    requires same_lengths { SameLengths (pair_of upper.now held_lower.old) (pair_of new_upper.old new_lower.old) }
-    ensures { Ended (pair_of upper.now lower.now) result
-        (pair_of closed_upper.old closed_lower.old)
-        (pair_of closed_upper.new closed_lower.new) }
-{
-    lists::copy(upper, held_upper);
-    lists::copy(lower, held_lower);
-    let stop = until_stop(held_upper, held_lower, new_upper, new_lower);
-    deliver(stop, held_upper, held_lower, closed_upper, closed_lower)
-}
-
-// The closure that is held goes to the result lists; where there is none they stay as they are.
-fn deliver(
-    stop: Stop,
-    held_upper: &[u32],
-    held_lower: &[u32],
-    closed_upper: &mut [u32],
-    closed_lower: &mut [u32],
-) -> Closing
-    requires { SameLengths (pair_of held_upper.now held_lower.now) (pair_of closed_upper.old closed_lower.old) }
-    ensures { ClosureDelivered stop (pair_of held_upper.now held_lower.now)
-        (pair_of closed_upper.old closed_lower.old) result
-        (pair_of closed_upper.new closed_lower.new) }
-{
-    match stop {
-        Stop::Settled { rounds } => {
-            lists::copy(held_upper, closed_upper);
-            lists::copy(held_lower, closed_lower);
-            Closing::Closed {
-                rounds,
-                unlimited: false,
-            }
-        }
-        Stop::Crossed => Closing::NoClosure,
-    }
-}
-
-// The rounds of the pair that is held, until one changes nothing or some least is above its ceiling: that is after at most 9 that change a
-// figure (`RunsWithinLogarithm`). The other two slices are to work in.
+// The rounds of the pair that is held, until one changes nothing, which counts those before it, or some least is above its ceiling: that is
+// after at most 9 that change a figure (`RunsWithinLogarithm`). The other two slices are to work in.
 fn until_stop(
     upper: &mut [u32],
     lower: &mut [u32],
     new_upper: &mut [u32],
     new_lower: &mut [u32],
-) -> Stop
+) -> Option<u32>
     requires upper_len_bound { (length upper.old ≤ max_horizon) × Bounded upper.old }
     requires same_lengths { SameLengths (pair_of upper.old lower.old) (pair_of new_upper.old new_lower.old) }
     ensures { Stopped (pair_of upper.old lower.old) result (pair_of upper.new lower.new) }
 {
     let mut rounds: u32 = 0;
+    // Stays a `loop`: a range up to 9 would need a way out behind it that is never taken.
     loop {
         if crossed(upper, lower) {
-            return Stop::Crossed;
+            return None;
         }
         if next_round(upper, lower, new_upper, new_lower) {
-            return Stop::Settled { rounds };
+            return Some(rounds);
         }
         rounds += 1;
     }
@@ -125,14 +71,10 @@ fn crossed(upper: &[u32], lower: &[u32]) -> bool
     requires { length lower.now ≡ length upper.now }
     ensures { Tells result (Crossed cut_off (pair_of upper.now lower.now)) }
 {
-    let mut i = 0;
-    while i < upper.len() {
-        if upper[i] < lower[i] {
-            return true;
-        }
-        i += 1;
-    }
-    false
+    upper
+        .iter()
+        .zip(lower)
+        .any(|(ceiling, least)| *ceiling < *least)
 }
 
 // One round of the pair that is held, and whether it changed nothing.
@@ -146,7 +88,8 @@ fn next_round(
     ensures { Advanced (pair_of upper.old lower.old) result (pair_of upper.new lower.new) }
 {
     round::compute(upper, lower, new_upper, new_lower);
-    let uppers_same = lists::copy(new_upper, upper);
-    let lowers_same = lists::copy(new_lower, lower);
-    uppers_same & lowers_same
+    let settled = *new_upper == *upper && *new_lower == *lower;
+    upper.copy_from_slice(new_upper);
+    lower.copy_from_slice(new_lower);
+    settled
 }

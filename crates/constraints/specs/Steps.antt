@@ -1,90 +1,96 @@
 -- What the private functions of this crate promise each other. `read`'s promise cites nothing of it.
-use Rattle.std.specs.Prelude.{ℕ, ◌-◌, ◌*◌, ◌≤◌, ◌<◌, min, max, ◌≡◌, Bool, true, false, cond, List, [], ◌++◌, map, eqb, ltb, length, get_or, set, drop}
+use Rattle.std.specs.Prelude.{ℕ, ◌-◌, ◌*◌, ◌≤◌, ◌<◌, min, max, ◌≡◌, Option, Some, None, unwrap_or, option_map, option_and_then, Result, Ok, Err}
+use Rattle.std.specs.Prelude.{List, [], map, get_or, set}
 use Rattle.laws.specs.Ranges.{table}
 use Rattle.laws.specs.Tests.{Each}
 use Rattle.curves.specs.Pairs.{Pair, pair_of}
+use Rattle.curves.specs.Unlimited.{AnyPair, limited, unlimited, mark_of}
 use Rattle.curves.specs.Questions.{AllYes, FirstNo}
 use Rattle.bounds.specs.Bounds.{max_horizon, RoomFor}
 use Rattle.csv_text.specs.Text.{Bytes}
-use Rattle.csv_text.specs.Records.{or_else, Constraint, constraint_of, message_limit, InRange}
+use Rattle.csv_text.specs.Records.{Most, none, up_to, most_in, MostWithin, Constraint, constraint_of, message_limit, InRange}
+use Rattle.records.specs.declared.Record.{Record}
 use Rattle.constraints.specs.Constraints.{named, largest_window, smallest_most}
-use Rattle.constraints.specs.Reading.{record_questions}
+use Rattle.constraints.specs.Reading.{record_questions, put_first}
+use Rattle.constraints.specs.Answers.{reading_refusal_number}
 use Rattle.constraints.specs.declared.Reading.{Reading}
-use Rattle.constraints.specs.declared.Reading.TheVariants.{Read, HeaderLine, RecordForm, FigureRange, WindowAgain}
-use Rattle.constraints.specs.declared.Reading.TheVariants.{NoRecord, ResultLength}
-use Rattle.constraints.specs.declared.Fault.{Fault}
-use Rattle.constraints.specs.declared.Fault.TheVariants.{Sound, Malformed, OutOfRange, Repeated}
-use Rattle.constraints.specs.declared.Scan.{Scan}
+use Rattle.constraints.specs.declared.ReadingRefusal.{ReadingRefusal}
+use Rattle.constraints.specs.declared.ReadingRefusal.TheVariants.{HeaderLine, RecordForm, FigureRange, WindowAgain, NoRecord, ResultLength}
+use Rattle.constraints.specs.declared.table.Row.{Row}
+use Rattle.constraints.specs.declared.table.Table.{Table}
 
 -- ---- the table
--- What stands for a most that is missing, and for that of a window that is not named: more than any that is given.
-abbrev pub no_most : ℕ
-no_most = 65_536
+-- A most, where there is one, as a number.
+abbrev pub given : Most → Option ℕ
+given none = None
+given (up_to m) = Some m
 
-abbrev pub unnamed : ℕ
-unnamed = 65_537
-
--- Constraints by their windows, as two numbers and two lists: entry 0 of a list is that of the window of one tick.
-pub record Table : Type 0 where
-  pub horizon : ℕ
-  pub smallest : ℕ
-  pub leasts : List ℕ
-  pub mosts : List ℕ
-
-abbrev pub table_of : ℕ → ℕ → List ℕ → List ℕ → Table
-table_of h s ls ms = record { horizon = h; smallest = s; leasts = ls; mosts = ms }
+-- What a constraint names for its window.
+abbrev pub row_of : Constraint → Option Row
+row_of c = Some (record { least = c.least; most = given c.most })
 
 -- A table holds the constraints cs, which are in range.
 pub record TableHolds (t : Table) (cs : List Constraint) : Type 0 where
   pub ranges : Each InRange cs
   pub horizon : t.horizon ≡ largest_window cs
-  pub smallest : t.smallest ≡ or_else no_most (smallest_most cs)
-  pub leasts : t.leasts ≡ table (named (λ c. c.least) 0 cs) max_horizon
-  pub mosts : t.mosts ≡ table (named (λ c. or_else no_most c.most) unnamed cs) max_horizon
+  pub smallest : most_in t.smallest ≡ smallest_most cs
+  pub rows : t.rows ≡ table (named row_of None cs) max_horizon
 
--- The table with a constraint more, its most as a number.
-abbrev pub with : Table → ℕ → ℕ → ℕ → Table
-with t w l m = table_of (max t.horizon w) (min t.smallest m) (set t.leasts (w - 1) l) (set t.mosts (w - 1) m)
+-- The smaller of two mosts, where the second may be missing, and the first too.
+abbrev pub smaller_given : Option ℕ → Option ℕ → Option ℕ
+smaller_given None y = y
+smaller_given (Some m) None = Some m
+smaller_given (Some m) (Some n) = Some (min m n)
 
--- A window's ceiling and least by the table.
-abbrev pub ceiling_in : ℕ → List ℕ → ℕ → ℕ
-ceiling_in s ms d = cond (ltb message_limit (get_or ms (d - 1) 0)) (d * s) (get_or ms (d - 1) 0)
+-- The table with a record's constraint more.
+abbrev pub with : Table → Record → Table
+with t r =
+    record {
+      horizon = max t.horizon r.window;
+      smallest = smaller_given t.smallest r.most;
+      rows = set t.rows (r.window - 1) (Some (record { least = r.least; most = r.most }));
+    }
 
-abbrev pub least_in : List ℕ → ℕ → ℕ
-least_in ls d = get_or ls (d - 1) 0
+abbrev pub Added : Table → Table → Record → Result (Unit {0}) ReadingRefusal → Type 0
+Added t t' r (Ok u) = (get_or t.rows (r.window - 1) None ≡ None) × (t' ≡ with t r)
+Added t t' r (Err e) = (¬ (get_or t.rows (r.window - 1) None ≡ None)) × (e ≡ WindowAgain)
 
--- No most is given.
-abbrev pub is_unlimited : Table → Bool
-is_unlimited t = eqb t.smallest no_most
+-- A window of the table, and its least and its ceiling by the rows.
+abbrev pub InTable : ℕ → Type 0
+InTable d = (1 ≤ d) × (d ≤ max_horizon)
 
--- The lists left after filling those found up to h, without ceilings or with them.
-abbrev pub filled_from : Bool → Table → ℕ → Pair → Pair
-filled_from true t h found = pair_of found.upper (table (least_in t.leasts) h ++ drop h found.lower)
-filled_from false t h found =
-    pair_of (table (ceiling_in t.smallest t.mosts) h ++ drop h found.upper) (table (least_in t.leasts) h ++ drop h found.lower)
+abbrev pub least_in : List (Option Row) → ℕ → ℕ
+least_in rows d = unwrap_or (option_map (λ r. r.least) (get_or rows (d - 1) None)) 0
+
+abbrev pub ceiling_in : ℕ → List (Option Row) → ℕ → ℕ
+ceiling_in s rows d = unwrap_or (option_and_then (λ r. r.most) (get_or rows (d - 1) None)) (d * s)
+
+-- The pair of the constraints that a table holds, by their smallest most.
+abbrev pub pair_by : Option ℕ → Table → AnyPair
+pair_by None t = unlimited t.horizon (table (least_in t.rows) t.horizon)
+pair_by (Some s) t = limited (pair_of (table (ceiling_in s t.rows) t.horizon) (table (least_in t.rows) t.horizon))
+
+abbrev pub pair_in : Table → AnyPair
+pair_in t = pair_by t.smallest t
 
 -- A table of at most 256 windows, whose ceilings fit into 32 bits.
 abbrev pub Sized : Table → Type 0
-Sized t = (t.horizon ≤ max_horizon) × (t.smallest ≤ no_most) × (length t.leasts ≡ max_horizon) × (length t.mosts ≡ max_horizon)
+Sized t = (t.horizon ≤ max_horizon) × MostWithin message_limit (most_in t.smallest)
 
 -- ---- the text
 -- What the records rs were found to be.
-abbrev pub ScannedAs : List Bytes → Table → Fault → Type 0
-ScannedAs rs t Sound = AllYes (record_questions [] rs) × TableHolds t (map constraint_of rs)
-ScannedAs rs t Malformed = FirstNo (record_questions [] rs) 7
-ScannedAs rs t OutOfRange = FirstNo (record_questions [] rs) 8
-ScannedAs rs t Repeated = FirstNo (record_questions [] rs) 9
-
-abbrev pub Scanned : List Bytes → List ℕ → List ℕ → Scan → Type 0
-Scanned rs ls ms s = ScannedAs rs (table_of s.horizon s.smallest ls ms) s.fault
+abbrev pub ScannedAs : List Bytes → Table → Result (Unit {0}) ReadingRefusal → Type 0
+ScannedAs rs t (Ok u) = AllYes (record_questions [] rs) × TableHolds t (map constraint_of rs)
+ScannedAs rs t (Err e) = FirstNo (record_questions [] rs) (reading_refusal_number e)
 
 -- What became of the table of all constraints.
-abbrev pub PairDelivered : Table → Pair → Pair → Reading → Type 0
-PairDelivered t found left (Read h b) =
-    (1 ≤ h) × (h ≡ t.horizon) × RoomFor h found × (b ≡ is_unlimited t) × (left ≡ filled_from b t h found)
-PairDelivered t found left NoRecord = (t.horizon < 1) × (left ≡ found)
-PairDelivered t found left ResultLength = (1 ≤ t.horizon) × (¬ RoomFor t.horizon found) × (left ≡ found)
-PairDelivered t found left HeaderLine = ⊥
-PairDelivered t found left RecordForm = ⊥
-PairDelivered t found left FigureRange = ⊥
-PairDelivered t found left WindowAgain = ⊥
+abbrev pub Delivered : Table → Pair → Pair → Result Reading ReadingRefusal → Type 0
+Delivered t found left (Ok r) =
+    (1 ≤ t.horizon) × RoomFor t.horizon found × (r.horizon ≡ t.horizon) × (r.unlimited ≡ mark_of (pair_in t))
+    × (left ≡ put_first t.horizon (pair_in t) found)
+Delivered t found left (Err NoRecord) = (t.horizon < 1) × (left ≡ found)
+Delivered t found left (Err ResultLength) = (1 ≤ t.horizon) × (¬ RoomFor t.horizon found) × (left ≡ found)
+Delivered t found left (Err HeaderLine) = ⊥
+Delivered t found left (Err RecordForm) = ⊥
+Delivered t found left (Err FigureRange) = ⊥
+Delivered t found left (Err WindowAgain) = ⊥

@@ -1,5 +1,5 @@
 -- A record of constraint text, and the constraint (triple) that it spells (document 01, "Triples as CSV text").
-use Rattle.std.specs.Prelude.{ℕ, ◌≤◌, ◌≡◌, Bool, true, false, [], ◌∷◌, ◌⊎◌, length, get_or}
+use Rattle.std.specs.Prelude.{ℕ, ◌≤◌, ◌≡◌, Bool, true, false, [], ◌∷◌, ◌⊎◌, Option, Some, None, length, get_or}
 use Rattle.bounds.specs.Bounds.{max_horizon}
 use Rattle.csv_text.specs.Text.{Bytes, records, fields}
 use Rattle.csv_text.specs.Numbers.{Numeral, value}
@@ -13,6 +13,11 @@ pub data Most : Type 0 where
 abbrev pub most_if : Bool → ℕ → Most
 most_if true m = up_to m
 most_if false m = none
+
+-- That of an optional number.
+abbrev pub most_in : Option ℕ → Most
+most_in (Some m) = up_to m
+most_in None = none
 
 -- It as a number; n where it is missing.
 abbrev pub or_else : ℕ → Most → ℕ

@@ -1,5 +1,5 @@
 -- Questions asked in order (document 01, "The questions, in order"), for every operation alike.
-use Rattle.std.specs.Prelude.{ℕ, ◌≡◌, refl, List, [], ◌∷◌, ◌⊎◌}
+use Rattle.std.specs.Prelude.{ℕ, ◌≡◌, refl, List, [], ◌∷◌, ◌⊎◌, Result, Ok, Err}
 use Rattle.std.proofs.Common.{inl, inr, ⊎_elim}
 use Rattle.std.proofs.Math.Logic.{⊎_map}
 
@@ -40,3 +40,8 @@ pub data Reply (A : Type 0) : Type 0 where
 -- The reply of an operation that asks these questions.
 abbrev pub reply_to : {A : Type 0} (qs : List Question) → (AllYes qs → A) → Reply A
 reply_to qs y = answer_to qs (λ yeses. result (y yeses)) refusal
+
+-- A call's result as a reply, by what its value stands for and its error's number.
+abbrev pub reply_of : {A B E : Type 0} → (A → B) → (E → ℕ) → Result A E → Reply B
+reply_of value number (Ok a) = result (value a)
+reply_of value number (Err e) = refusal (number e)

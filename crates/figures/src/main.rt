@@ -2,8 +2,7 @@
 
 #![tactic(auto)]
 
-ghost use Rattle.std.specs.Prelude.{length};
-ghost use Rattle.figures.specs.Steps.{Fits};
+ghost use Rattle.std.specs.Prelude.{◌≤◌, IfOk, length};
 
 use std::io;
 use std::io::Read;
@@ -11,43 +10,34 @@ use std::io::Read;
 // One byte more than the longest text, so that a longer one is seen to be too long.
 const ROOM: usize = 16_385;
 
-// What was read of the input: so many bytes, or a read failed.
-#[derive(Drop)]
-enum Input {
-    Bytes(usize),
-    Failed(io::Error),
-}
-
 fn main(rt: HostRuntime) -> io::Result<()> {
     let mut text = [0; ROOM];
     match read_input(&mut rt.stdin(), &mut text) {
-        Input::Bytes(n) => write_report(&rt, &text[..n]),
-        Input::Failed(error) => eprintln!(rt; "figures: standard input: {error}"),
+        Ok(n) => write_report(&rt, &text[..n]),
+        Err(error) => eprintln!(rt; "figures: standard input: {error}"),
     }
 }
 
-// Reads up to the end of the input, or until there is no room.
-fn read_input<R: Read>(from: &mut R, text: &mut [u8]) -> Input
-    ensures { Fits (length text.new) result }
+// Reads up to the end of the input, or until there is no room: so many bytes. The program `texts` has the same: a crate for it, with a test of
+// its own, would be longer than the two.
+fn read_input<R: Read>(from: &mut R, text: &mut [u8]) -> io::Result<usize>
+    ensures { IfOk result (λ n. n ≤ length text.new) }
 {
     let mut n = 0;
+    // Stays a `while`: how far a turn comes is the reader's to say.
     while n < text.len() {
-        match from.read(&mut text[n..]) {
-            Ok(0) => return Input::Bytes(n),
-            Ok(more) => n += more,
-            Err(error) => return Input::Failed(error),
+        let more = from.read(&mut text[n..])?;
+        if more == 0 {
+            break;
         }
+        n += more;
     }
-    Input::Bytes(n)
+    Ok(n)
 }
 
 // Writes the output for a text.
 fn write_report(rt: &(impl Print + Eprint), text: &[u8]) -> io::Result<()> {
     let report = report::report(text);
-    let n = report.length;
-    let bytes = report.bytes;
-    match rt.write_all(&bytes[..n]) {
-        Ok(()) => Ok(()),
-        Err(error) => eprintln!(rt; "figures: standard output: {error}"),
-    }
+    rt.write_all(report.as_bytes())
+        .or_else(|error| eprintln!(rt; "figures: standard output: {error}"))
 }

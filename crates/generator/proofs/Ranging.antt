@@ -1,39 +1,29 @@
--- Laws over plain variables for the counts that the next tick can have: what a turn of the loop keeps, what the range answers, and what is
--- held after one is sent.
+-- Laws over plain variables for the counts that the next tick can have: what a turn of the loop keeps, and what the range answers.
 -- Assumes nothing.
-use Rattle.laws.proofs.Base.{ℕ, suc, ◌+◌, ◌-◌, ◌*◌, ◌%◌, ◌≤◌, ◌<◌, min, max, ◌≡◌, refl, sym, ap, ◌∙◌, subst, Bool, true, false, ◌↔◌}
-use Rattle.laws.proofs.Base.{List, [], ◌∷◌, ◌++◌, le_refl, add-one, arith, length, get_or, take, drop}
-use types.Run.{OneOf, miss}
-use denote.Enum.Declared.{tag_of}
+use Rattle.std.specs.Prelude.{Option, Some, None, Ok}
+use Rattle.std.specs.Option.{ok_or}
+use Rattle.laws.proofs.Base.{ℕ, suc, ◌+◌, ◌-◌, ◌*◌, ◌≤◌, ◌<◌, min, max, ◌≡◌, refl, sym, ap, ◌∙◌, subst, Bool, true, false, ◌↔◌}
+use Rattle.laws.proofs.Base.{List, le_refl, add-one, arith, length, get_or}
 use Rattle.curves.specs.Streams.{count_limit}
 use Rattle.curves.specs.Pairs.{Pair, figure}
 use Rattle.curves.specs.Unlimited.{with_mark, curves_of}
 use Rattle.curves.specs.Conformance.{Inside}
-use Rattle.curves.specs.Ticks.{then, last, Keeps}
+use Rattle.curves.specs.Ticks.{then, last}
 use Rattle.curves.specs.Questions.{result}
 use Rattle.curves.proofs.Highest.{highest_at}
-use Rattle.curves.proofs.NextTick.{last_none, last_more, length-then, last_next, range_from, no_range}
+use Rattle.curves.proofs.NextTick.{last_none, last_more, length-then, last_next}
 use Rattle.curves.proofs.Verdicts.{KeptTo, kept_none, kept_more}
-use Rattle.bounds.specs.Bounds.{figure_limit}
-use Rattle.lists.specs.Pushing.{Pushed}
-use Rattle.history.specs.declared.History.{History}
-use Rattle.history.specs.States.{View, history_of, view_of, added, Legal}
-use Rattle.history.specs.Steps.{Slices}
-use Rattle.history.proofs.Histories.{legal_sizes}
-use Rattle.history.proofs.Slicing.{Arrays, some_window, tick_for_each, added_is, judged-next}
-use Rattle.generator.specs.declared.Generator.{Generator}
+use Rattle.bounds.specs.Bounds.{max_horizon, figure_limit}
+use Rattle.history.specs.States.{View, Legal}
+use Rattle.history.specs.Steps.{Slices, view_with}
+use Rattle.history.proofs.Slicing.{judged-next}
 use Rattle.generator.specs.declared.Admissible.{Admissible}
-use Rattle.generator.specs.declared.Admissible.TheVariants as admissible
-use Rattle.generator.specs.declared.Sending.{Sending}
-use Rattle.generator.specs.declared.Sending.TheVariants as sends
-use Rattle.generator.specs.declared.Limits.{Limits}
-use Rattle.generator.specs.Generating.{Sendable, chosen, ranging, sending, GeneratorNext}
-use Rattle.generator.specs.Answers.{range_reply, sending_reply}
-use Rattle.generator.specs.Steps.{Limited, sum_limit, lowered_to, Small, Shows, ChoosesWhere}
-use Rattle.generator.specs.Steps.{HoldsWhere, HeldMore, HeldAsFound, Held}
-use Rattle.generator.specs.contracts.Sending.{the_type}
+use Rattle.generator.specs.declared.SendingRefusal.TheVariants as refuses
+use Rattle.generator.specs.Generating.{ranging, sending}
+use Rattle.generator.specs.Answers.{range_reply}
+use Rattle.generator.specs.Steps.{Keeping, Limited, sum_limit, lowered_to, Shows}
 use Rattle.generator.proofs.Said.{range_answer, ranging_none, ranging_range, ranging_from, count_limited}
-use Rattle.generator.proofs.Said.{sendable_iff, chosen_within, sent_from_lem}
+use Rattle.generator.proofs.Said.{sendable_iff, sent_from_lem}
 
 -- ---- one window
 -- What a window with the ceiling u, of whose ticks those before the next one have the sum s, leaves of an end; by the pair's mark.
@@ -59,6 +49,10 @@ lowered_rest : (b : Bool) (hi u r : ℕ) → r ≤ sum_limit
 lowered_rest true hi u r h = refl
 lowered_rest false hi u r h = omega arith
 
+lowered_small : (b : Bool) (hi u r : ℕ) → lowered_to b hi u r ≤ hi
+lowered_small true hi u r = le_refl hi
+lowered_small false hi u r = omega arith
+
 -- The figures of d + 1 ticks are the entries with index d.
 inside_iff : (us ls : List ℕ) (b : Bool) (d s : ℕ) → d < length us → s ≤ (d + 1) * count_limit
     → Inside (curves_of (with_mark us ls b)) (suc d) s ↔ ((get_or ls d 0 ≤ s) × Below b (get_or us d 0) s)
@@ -80,6 +74,13 @@ module _ (us ls : List ℕ) (b : Bool) (xs : List ℕ) where
     pub held : d ≤ length xs
     pub summed : s ≡ last xs d
     pub counts : (x : ℕ) → (KeptTo p (then xs x) (suc d) × (x ≤ figure_limit)) ↔ ((lo ≤ x) × (x < end))
+
+  -- The loop has them with the limit of sums added, the largest count in place of the end, and what the sum leaves of that limit.
+  pub record Rested (lo hi r d : ℕ) : Type 0 where
+    pub most : r ≤ sum_limit
+    pub least : sum_limit ≤ r + d * count_limit
+    pub small : hi ≤ figure_limit + sum_limit
+    pub narrowed : Narrowed (lo - sum_limit) (hi - (sum_limit - 1)) (sum_limit - r) d
 
   module _ (S : Slices us ls xs) where
     -- With the count x, the window of d + 1 ticks, of which those before have the sum s, keeps its figures.
@@ -157,133 +158,126 @@ module _ (us ls : List ℕ) (b : Bool) (xs : List ℕ) where
           (more (omega arith) (omega (arith, ap (λ k. get_or ls k 0) (add-one d)))
           (p₂ ∙ ap (λ k. lowered_by b end (get_or us k 0) s') (add-one d)))
 
-    -- The loop has them with the limit of sums added, the largest count in place of the end, and what the sum leaves of that limit.
-    pub rested-once
+    pub rested_once
         : (lo hi : ℕ) → lo ≡ get_or ls 0 0 + sum_limit → hi ≡ lowered_to b (figure_limit + sum_limit) (get_or us 0 0) sum_limit
-        → Narrowed (lo - sum_limit) (hi - (sum_limit - 1)) (sum_limit - sum_limit) 0
-    rested-once lo hi p₁ p₂ =
+        → Rested lo hi sum_limit 0
+    rested_once lo hi p₁ p₂ =
         let first : lo - sum_limit ≡ get_or ls 0 0 = omega arith in
-        rw first
-        (narrowed_once (hi - (sum_limit - 1))
-        (ap (λ k. k - (sum_limit - 1)) p₂ ∙ lowered_rest b _ (get_or us 0 0) sum_limit (le_refl sum_limit)))
+        record {
+          most = le_refl sum_limit;
+          least = omega arith;
+          small = omega (arith, p₂, lowered_small b (figure_limit + sum_limit) (get_or us 0 0) sum_limit);
+          narrowed =
+              rw first
+              (narrowed_once (hi - (sum_limit - 1))
+              (ap (λ k. k - (sum_limit - 1)) p₂ ∙ lowered_rest b _ (get_or us 0 0) sum_limit (le_refl sum_limit)));
+        }
 
-    pub rested-more
-        : (lo hi r d lo' hi' : ℕ) → Narrowed (lo - sum_limit) (hi - (sum_limit - 1)) (sum_limit - r) d → d < length xs → r ≤ sum_limit
-        → (t : ℕ) → t ≡ get_or xs (length xs - 1 - d) 0 → t ≤ r → sum_limit ≤ r - t + (d + 1) * count_limit
+    -- One window more: t is the tick that its sum has and the one before has not. There are too few ticks for a sum above the limit.
+    rested_more
+        : (lo hi r d t lo' hi' : ℕ) → Rested lo hi r d → d < length xs → t ≡ get_or xs (length xs - 1 - d) 0 → t ≤ count_limit
         → lo' ≡ max lo (get_or ls (d + 1) 0 + (r - t)) → hi' ≡ lowered_to b hi (get_or us (d + 1) 0) (r - t)
-        → Narrowed (lo' - sum_limit) (hi' - (sum_limit - 1)) (sum_limit - (r - t)) (d + 1)
-    rested-more lo hi r d lo' hi' N h l t e m c p₁ p₂ =
-        let same : sum_limit - r + get_or xs (length xs - 1 - d) 0 ≡ sum_limit - (r - t) = omega (arith, l, e, m) in
-        let less : r - t ≤ sum_limit = omega (arith, l) in
-        subst (λ s. Narrowed (lo' - sum_limit) (hi' - (sum_limit - 1)) s (d + 1)) same
-        (narrowed_more (lo - sum_limit) (hi - (sum_limit - 1)) (sum_limit - r) d _ _ N h (rw same (omega arith))
-        (rw same (ap (λ k. k - sum_limit) p₁ ∙ raised_rest lo (get_or ls (d + 1) 0) (r - t) less))
-        (rw same (ap (λ k. k - (sum_limit - 1)) p₂ ∙ lowered_rest b hi (get_or us (d + 1) 0) (r - t) less)))
+        → Rested lo' hi' (r - t) (d + 1)
+    rested_more lo hi r d t lo' hi' R h e c p₁ p₂ =
+        let few : length xs < length us = S.fewer in
+        let fits : length us ≤ max_horizon = S.within in
+        let l : t ≤ r = omega arith in
+        let same : sum_limit - r + get_or xs (length xs - 1 - d) 0 ≡ sum_limit - (r - t) = omega arith in
+        let less : r - t ≤ sum_limit = omega arith in
+        record {
+          most = less;
+          least = omega arith;
+          small = omega (arith, p₂, lowered_small b hi (get_or us (d + 1) 0) (r - t));
+          narrowed =
+              subst (λ s. Narrowed (lo' - sum_limit) (hi' - (sum_limit - 1)) s (d + 1)) same
+              (narrowed_more (lo - sum_limit) (hi - (sum_limit - 1)) (sum_limit - r) d _ _ R.narrowed h (rw same (omega arith))
+              (rw same (ap (λ k. k - sum_limit) p₁ ∙ raised_rest lo (get_or ls (d + 1) 0) (r - t) less))
+              (rw same (ap (λ k. k - (sum_limit - 1)) p₂ ∙ lowered_rest b hi (get_or us (d + 1) 0) (r - t) less)));
+        }
 
-  -- There is no window left.
-  pub narrowed-whole
-      : (lo end s d : ℕ) → Narrowed lo end s d → length xs ≤ d → (x : ℕ)
-      → (Keeps p (then xs x) × (x ≤ figure_limit)) ↔ ((lo ≤ x) × (x < end))
-  narrowed-whole lo end s d N h x = ((λ k. (N.counts x).0 ((λ e l j. k.0 e j), k.1)), back)
-    where
-      back : (lo ≤ x) × (x < end) → Keeps p (then xs x) × (x ≤ figure_limit)
-      back r =
-          let (k, l) = (N.counts x).1 r in
-          ((λ e j. k e (let b : e ≤ length (then xs x) = j.begun in omega (arith, length-then xs x)) j), l)
+    -- A turn: two windows more, with the ticks t and t'. It takes off both at once.
+    pub rested_twice
+        : (lo hi r turn t t' lo' hi' : ℕ) → Rested lo hi r (2 * turn) → 2 * turn + 1 < length xs
+        → t ≡ get_or xs (length xs - 2 * turn - 1) 0 → t' ≡ get_or xs (length xs - 2 * turn - 2) 0
+        → t ≤ count_limit → t' ≤ count_limit
+        → lo' ≡ max (max lo (get_or ls (2 * turn + 1) 0 + (r - (t + t') + t'))) (get_or ls (2 * turn + 1 + 1) 0 + (r - (t + t')))
+        → hi'
+        ≡ lowered_to b (lowered_to b hi (get_or us (2 * turn + 1) 0) (r - (t + t') + t')) (get_or us (2 * turn + 1 + 1) 0) (r - (t + t'))
+        → Rested lo' hi' (r - (t + t')) (2 * (turn + 1))
+    rested_twice lo hi r turn t t' lo' hi' R h e e' c c' p₁ p₂ =
+        let d : ℕ = 2 * turn in
+        let few : length xs < length us = S.fewer in
+        let fits : length us ≤ max_horizon = S.within in
+        let off : r - t - t' ≡ r - (t + t') = omega arith in
+        let one : r - (t + t') + t' ≡ r - t = omega (arith, R.least) in
+        let next : d + 1 + 1 ≡ 2 * (turn + 1) = omega arith in
+        let newer : t ≡ get_or xs (length xs - 1 - d) 0 = e ∙ ap (λ k. get_or xs k 0) (omega arith) in
+        let older : t' ≡ get_or xs (length xs - 1 - (d + 1)) 0 = e' ∙ ap (λ k. get_or xs k 0) (omega arith) in
+        let first = rested_more lo hi r d t _ _ R (omega arith) newer c refl refl in
+        let least : ℕ → ℕ → ℕ = λ k s. max (max lo (get_or ls (d + 1) 0 + k)) (get_or ls (d + 1 + 1) 0 + s) in
+        let most : ℕ → ℕ → ℕ = λ k s. lowered_to b (lowered_to b hi (get_or us (d + 1) 0) k) (get_or us (d + 1 + 1) 0) s in
+        let both =
+        rested_more _ _ (r - t) (d + 1) t' lo' hi' first h older c'
+        (p₁ ∙ (λ i. least (one i) (sym off i)))
+        (p₂ ∙ (λ i. most (one i) (sym off i))) in
+        subst (Rested lo' hi' (r - (t + t'))) next (subst (λ s. Rested lo' hi' s (d + 1 + 1)) off both)
 
--- ---- the count that a choice leads to
--- The definition divides by the same number, written as a successor.
-pub chosen_is : (lo hi choice : ℕ) → lo + choice % (hi - lo + 1) ≡ chosen (range_answer lo hi) choice
-chosen_is lo hi choice = ap (λ k. lo + choice % k) (add-one (hi - lo))
+    -- The last window, where a turn has no other.
+    pub rested_last
+        : (lo hi r d t lo' hi' : ℕ) → Rested lo hi r d → d + 1 ≡ length xs → t ≡ get_or xs 0 0 → t ≤ count_limit
+        → lo' ≡ max lo (get_or ls (length xs) 0 + (r - t)) → hi' ≡ lowered_to b hi (get_or us (length xs) 0) (r - t)
+        → Rested lo' hi' (r - t) (length xs)
+    rested_last lo hi r d t lo' hi' R e q c p₁ p₂ =
+        subst (Rested lo' hi' (r - t)) e
+        (rested_more lo hi r d t lo' hi' R (omega arith) (q ∙ ap (λ k. get_or xs k 0) (omega arith)) c
+        (p₁ ∙ ap (λ k. max lo (get_or ls k 0 + (r - t))) (sym e))
+        (p₂ ∙ ap (λ k. lowered_to b hi (get_or us k 0) (r - t)) (sym e)))
 
-pub chosen_below : (lo hi choice : ℕ) → lo ≤ hi → lo + choice % (hi - lo + 1) ≤ hi
-chosen_below lo hi choice h = omega (arith, chosen_is lo hi choice, (chosen_within (range_answer lo hi) choice h).1)
+  -- There is no window left: what is shown are the counts that will do.
+  module _ (lo end s d : ℕ) (N : Narrowed lo end s d) (h : length xs ≤ d) where
+    narrowed_whole : (x : ℕ) → Keeping (view_with us ls b xs) x ↔ ((lo ≤ x) × (x < end))
+    narrowed_whole x = ((λ k. (N.counts x).0 ((λ e l j. k.0 e j), k.1)), back)
+      where
+        back : (lo ≤ x) × (x < end) → Keeping (view_with us ls b xs) x
+        back r =
+            let (k, l) = (N.counts x).1 r in
+            ((λ e j. k e (let b : e ≤ length (then xs x) = j.begun in omega (arith, h, length-then xs x)) j), l)
 
--- ---- what the range answers
-module _ (v : View) (L : Legal v) (l : Limits) (b : Limited v l) where
-  -- Where there is a count, the largest is within the limit, and so are all.
-  pub limits_small : Small l
-  limits_small h = omega (arith, ((b (l.end - 1)).1 (omega arith, omega arith)).1)
+    pub narrowed_shown : (r : Option Admissible) → Shows lo end r → Limited (view_with us ls b xs) r
+    narrowed_shown (Some a) (some, is-lo, is-hi) = (omega arith, λ x. (there x, back x))
+      where
+        there : (x : ℕ) → Keeping (view_with us ls b xs) x → (a.lo ≤ x) × (x ≤ a.hi)
+        there x k = let (u, v) = (narrowed_whole x).0 k in (omega (arith, is-lo), omega (arith, is-hi))
 
-  -- They are those that can be sent.
-  sent_iff : (x : ℕ) → Sendable v.pair v.held x ↔ ((l.lo ≤ x) × (x < l.end))
-  sent_iff x =
-      let e = sendable_iff v L x in ((λ k. (b x).0 (e.0 k)), (λ k. e.1 ((b x).1 k)))
+        back : (x : ℕ) → (a.lo ≤ x) × (x ≤ a.hi) → Keeping (view_with us ls b xs) x
+        back x (u, v) = (narrowed_whole x).1 (omega (arith, is-lo), omega (arith, is-hi))
+    narrowed_shown None none = λ x k. let (u, v) = (narrowed_whole x).0 k in omega arith
 
-  -- What is shown of the limits is what the range answers.
-  pub shown_range : (a : Admissible) → Shows l a → range_reply a ≡ ranging v
-  unfolding range_from
-  shown_range (admissible.Range lo hi) (some, is-lo, is-hi) =
-      (λ i. result (range_answer (is-lo i) (is-hi i)))
-      ∙ sym (ranging_range v L (range_from l.lo l.end sent_iff some))
-  shown_range admissible.BadState s = absurd s
-  shown_range admissible.NoCount none = sym (ranging_none v L (no_range l.lo l.end sent_iff none))
+-- ---- what the range answers, and the count that a choice leads to
+-- What is shown of the counts is what the range answers.
+pub limited_range : (v : View) → Legal v → (r : Option Admissible) → Limited v r → range_reply (ok_or r refuses.NoCount) ≡ ranging v
+limited_range v l (Some a) (some, same) =
+    sym (ranging_range v l (record {
+      lo = a.lo;
+      hi = a.hi;
+      lo_keeps = (sendable_iff v l a.lo).1 ((same a.lo).1 (le_refl a.lo, some));
+      hi_keeps = (sendable_iff v l a.hi).1 ((same a.hi).1 (some, le_refl a.hi));
+      smallest = λ x k. ((same x).0 ((sendable_iff v l x).0 k)).0;
+      largest = λ x k. ((same x).0 ((sendable_iff v l x).0 k)).1;
+    }))
+limited_range v l None none = sym (ranging_none v l (λ r. none r.lo ((sendable_iff v l r.lo).0 r.lo_keeps)))
 
 -- A range that is shown has a count, and none above the limit.
-pub chooses_where : (v : View) (a : Admissible) → range_reply a ≡ ranging v → ChoosesWhere a
-chooses_where v (admissible.Range lo hi) e =
-    let (l, shown) = ranging_from v (range_answer lo hi) (sym e) in
+pub range_sizes : (v : View) (a : Admissible) → range_reply (Ok a) ≡ ranging v → (a.lo ≤ a.hi) × (a.hi ≤ figure_limit)
+range_sizes v a e =
+    let (l, shown) = ranging_from v (range_answer a.lo a.hi) (sym e) in
     let (r, is) = shown in
-    let a : r.lo ≡ lo = ap (λ b. b.lo) is in
-    let c : r.hi ≡ hi = ap (λ b. b.hi) is in
+    let lo : r.lo ≡ a.lo = ap (λ b. b.lo) is in
+    let hi : r.hi ≡ a.hi = ap (λ b. b.hi) is in
     (omega (arith, r.smallest r.hi r.hi_keeps), omega (arith, count_limited v l r.hi r.hi_keeps))
-chooses_where v admissible.BadState e = tt
-chooses_where v admissible.NoCount e = tt
 
--- ---- the held ticks and the next state
+-- ---- the next state
 -- A count is sent only where the state has its form.
-sent_legal : (v : View) (choice x : ℕ) → result x ≡ sending v choice → Legal v
+pub sent_legal : (v : View) (choice x : ℕ) → result x ≡ sending v choice → Legal v
 sent_legal v choice x e =
     let (b, shown, is) = sent_from_lem v choice x (sym e) in (ranging_from v b shown).0
-
--- Then there is a window, and a place for each.
-pub holds_where : (h : History) (choice : ℕ) (s : Sending) → Arrays h → sending_reply s ≡ sending (view_of h) choice
-    → HoldsWhere s h.horizon h.ticks
-holds_where h choice (sends.Sent x) a e =
-    let l = legal_sizes h (sent_legal (view_of h) choice x e) in (some_window h a l, tick_for_each h a l)
-holds_where h choice sends.BadState a e = tt
-holds_where h choice sends.NoCount a e = tt
-
--- The count is put into its place.
-pub held_more : (s : Sending) (h k x : ℕ) (found front : List ℕ) (n : ℕ) → s ≡ sends.Sent x → Pushed (take (h - 1) found) k x front n
-    → Held s h k found (front ++ drop (h - 1) found) n
-held_more s h k x found front n e p = rw e (front, p, refl)
-
--- Where none is sent nothing changes.
-abbrev pub refusals : List ℕ
-refusals = 1 ∷ 2 ∷ []
-
-pub held_as_found : (s : Sending) (h k : ℕ) (found : List ℕ) → OneOf refusals (tag_of the_type s) → Held s h k found found k
-held_as_found (sends.Sent x) h k found m = absurd (miss refusals 0 tt m)
-held_as_found sends.BadState h k found m = (refl, refl)
-held_as_found sends.NoCount h k found m = (refl, refl)
-
--- The state that is put together then, with n ticks held in `left`.
-abbrev next_with : Generator → List ℕ → ℕ → Generator
-next_with g left n =
-    let h : History = g.history in
-    record { history = history_of h.horizon h.upper h.lower h.unlimited n left }
-
-module _ (g : Generator) (choice : ℕ) (a : Arrays g.history) (left : List ℕ) (n : ℕ) where
-  sent_next : (x : ℕ) → Legal (view_of g.history)
-      → HeldMore g.history.horizon g.history.held x g.history.ticks left n
-      → view_of (next_with g left n).history ≡ added (view_of g.history) x
-  sent_next x l (front, p, f) =
-      let h : History = g.history in
-      ap (λ (ys : List ℕ). view_of (history_of h.horizon h.upper h.lower h.unlimited n ys)) f
-      ∙ added_is h a (legal_sizes h l) x front n p
-
-  kept : HeldAsFound g.history.held g.history.ticks left n → next_with g left n ≡ g
-  kept (f, e) = λ i. next_with g (f i) (e i)
-
-  by_sending : (s : Sending) → sending_reply s ≡ sending (view_of g.history) choice
-      → Held s g.history.horizon g.history.held g.history.ticks left n
-      → GeneratorNext (sending_reply s) g (next_with g left n)
-  by_sending (sends.Sent x) e h = sent_next x (sent_legal _ choice x e) h
-  by_sending sends.BadState e h = kept h
-  by_sending sends.NoCount e h = kept h
-
-  pub next_is : (s : Sending) → sending_reply s ≡ sending (view_of g.history) choice
-      → Held s g.history.horizon g.history.held g.history.ticks left n
-      → GeneratorNext (sending (view_of g.history) choice) g (next_with g left n)
-  next_is s e h = rw (← e) (by_sending s e h)

@@ -1,9 +1,10 @@
 -- Lists of calls (document 01, "Monitor and maker"): each call gets the state that the one before it left.
-use Rattle.std.specs.Prelude.{ℕ, List, [], ◌∷◌, ◌++◌}
+use Rattle.std.specs.Prelude.{ℕ, List, [], ◌∷◌, ◌++◌, Result}
 use Rattle.curves.specs.Questions.{Reply, result, refusal}
 use Rattle.history.specs.States.{View, added}
 use Rattle.generator.specs.declared.Generator.{Generator}
 use Rattle.generator.specs.declared.Admissible.{Admissible}
+use Rattle.generator.specs.declared.SendingRefusal.{SendingRefusal}
 use Rattle.generator.specs.declared.Sent.{Sent}
 use Rattle.generator.specs.Generating.{sending}
 use Rattle.generator.specs.Answers.{sending_reply}
@@ -33,7 +34,7 @@ after_sendings v (choice ∷ choices) = after_sendings (view_after (sending v ch
 -- A call: a tick with its choice, or one for the range (document 01's look); and what came back.
 pub data Call : Type 0 where
   ticked : ℕ → Sent → Call
-  ranged : Admissible → Call
+  ranged : Result Admissible SendingRefusal → Call
 
 -- A call for the range leaves the state as it was.
 abbrev pub Calls : Generator → List Call → Type 0

@@ -1,11 +1,12 @@
 -- What the public operations promise: the answer, and the state that comes back.
-use Rattle.std.specs.Prelude.{ℕ, ◌≡◌}
+use Rattle.std.specs.Prelude.{ℕ, ◌≡◌, Result}
 use Rattle.curves.specs.Unlimited.{AnyPair}
 use Rattle.history.specs.States.{view_of}
 use Rattle.history.specs.Opening.{Begun}
 use Rattle.generator.specs.declared.Generator.{Generator}
 use Rattle.generator.specs.declared.OpenedGenerator.{OpenedGenerator}
 use Rattle.generator.specs.declared.Admissible.{Admissible}
+use Rattle.generator.specs.declared.SendingRefusal.{SendingRefusal}
 use Rattle.generator.specs.declared.Sent.{Sent}
 use Rattle.generator.specs.Generating.{ranging, sending, GeneratorNext}
 use Rattle.generator.specs.Opening.{generator_opening}
@@ -20,5 +21,5 @@ pub record GeneratorTicked (g : Generator) (choice : ℕ) (r : Sent) : Type 0 wh
   pub next : GeneratorNext (sending (view_of g.history) choice) g r.next
 
 -- The range has no state to hand back: the caller keeps the one given.
-abbrev pub GeneratorRanged : Generator → Admissible → Type 0
+abbrev pub GeneratorRanged : Generator → Result Admissible SendingRefusal → Type 0
 GeneratorRanged g r = range_reply r ≡ ranging (view_of g.history)

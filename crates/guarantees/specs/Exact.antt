@@ -1,7 +1,7 @@
 -- Demand 2, as request P2 leaves it: its first sentence is one about 'too many' and 'too few', and the generator is compared with the
 -- counts that are neither; on a pair on which a generator opens, behind a stream that the monitor has passed, these are the counts that
 -- pass (NeverRefused: `SendsIffPasses`). Its last sentence, on the closure, is closing's own (`GivesWhatArrives`, `ClosureIsArrivedAt`).
-use Rattle.std.specs.Prelude.{ℕ, ◌≤◌, ◌≡◌, false, List, map, ◌↔◌, ◌⊎◌}
+use Rattle.std.specs.Prelude.{ℕ, ◌≤◌, ◌≡◌, false, List, map, ◌↔◌, ◌⊎◌, Result}
 use Rattle.laws.specs.Tests.{Each}
 use Rattle.curves.specs.Streams.{count_limit}
 use Rattle.curves.specs.Pairs.{Pair}
@@ -21,6 +21,7 @@ use Rattle.monitor.specs.Promises.{MonitorTicked}
 use Rattle.monitor.specs.Calls.{after_ticks, rulings, Tick, Ticks}
 use Rattle.generator.specs.declared.Generator.{Generator}
 use Rattle.generator.specs.declared.Admissible.{Admissible}
+use Rattle.generator.specs.declared.SendingRefusal.{SendingRefusal}
 use Rattle.generator.specs.declared.Sent.{Sent}
 use Rattle.generator.specs.Generating.{RangeAnswer, ranging, sending, EqualGenerators}
 use Rattle.generator.specs.Answers.{range_reply, sending_reply}
@@ -155,5 +156,5 @@ EqualGeneratorsAgree =
 
 abbrev pub EqualGeneratorsRange : Type 0
 EqualGeneratorsRange =
-    (g g' : Generator) (a a' : Admissible) → EqualGenerators g g' → GeneratorRanged g a → GeneratorRanged g' a'
+    (g g' : Generator) (a a' : Result Admissible SendingRefusal) → EqualGenerators g g' → GeneratorRanged g a → GeneratorRanged g' a'
     → range_reply a ≡ range_reply a'

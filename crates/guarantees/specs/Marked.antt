@@ -1,6 +1,6 @@
 -- Document 01's marked figures ("Figures to try"): one list of cases. By request P3 the case of the start 0, 2, 1, 0, 2, 0 is the
 -- monitor's, and the 13 after it is that of a state built by hand.
-use Rattle.std.specs.Prelude.{ℕ, ◌≤◌, ◌≡◌, List, [], ◌∷◌, ◌++◌, map, length, false}
+use Rattle.std.specs.Prelude.{ℕ, ◌≤◌, ◌≡◌, List, [], ◌∷◌, ◌++◌, map, length, false, Result}
 use Rattle.laws.specs.Tests.{Each}
 use Rattle.curves.specs.Pairs.{Pair, pair_of, horizon}
 use Rattle.curves.specs.Unlimited.{limited, EqualPairs}
@@ -16,6 +16,7 @@ use Rattle.monitor.specs.Opening.{monitor_opening, fresh_monitor}
 use Rattle.monitor.specs.Calls.{rulings}
 use Rattle.generator.specs.declared.Generator.{Generator}
 use Rattle.generator.specs.declared.Admissible.{Admissible}
+use Rattle.generator.specs.declared.SendingRefusal.{SendingRefusal}
 use Rattle.generator.specs.declared.Sent.{Sent}
 use Rattle.generator.specs.Generating.{RangeAnswer, ranging, chosen, sending}
 use Rattle.generator.specs.Opening.{generator_opening}
@@ -70,7 +71,7 @@ CaseHolds (stops p xs g) =
     (generator_opening (limited p) ≡ refusal 15)
     × Conforms p xs
     × (view_of g.history ≡ added_all (fresh (limited p)) xs)
-    × ((r : Admissible) → GeneratorRanged g r → range_reply r ≡ refusal 13)
+    × ((r : Result Admissible SendingRefusal) → GeneratorRanged g r → range_reply r ≡ refusal 13)
     × ((choice : ℕ) (r : Sent) → GeneratorTicked g choice r → sending_reply r.sending ≡ refusal 13)
 
 unfoldable pub marked_cases : List Case

@@ -1,33 +1,20 @@
 -- Laws over plain variables that the proofs about a history cite.
 -- Assumes nothing.
-use Rattle.laws.proofs.Base.{ℕ, ◌≤◌, ◌<◌, ◌≡◌, refl, sym, ap, ◌∙◌, subst, subst⁻¹, Bool, false, List, [], ◌∷◌, ◌++◌, arith}
-use Rattle.laws.proofs.Base.{length, take, drop, replicate, length-append, length-replicate, length-take-le, ext_get_or, take_at}
-use types.Run.{OneOf, miss}
-use denote.Enum.Declared.{tag_of}
+use Rattle.laws.proofs.Base.{ℕ, ◌≤◌, ◌<◌, ◌≡◌, refl, sym, ap, ◌∙◌, subst, subst⁻¹, Bool, List, [], ◌++◌, arith}
+use Rattle.laws.proofs.Base.{length, take, length-append, length-take-le, ext_get_or, take_at}
 use lib.Seq.{get_or-take}
-use Rattle.lists.specs.Copying.{Copied}
-use Rattle.lists.proofs.Whole.{beginning}
 use Rattle.laws.specs.Ranges.{table}
 use Rattle.laws.proofs.Table.{length-table, get_or-table}
 use Rattle.curves.specs.Pairs.{figure, horizon}
 use Rattle.curves.specs.Unlimited.{AnyPair, with_mark, curves_of}
-use Rattle.curves.proofs.Highest.{horizon_with}
-use Rattle.curves.specs.Questions.{AllYes}
-use Rattle.bounds.specs.Bounds.{max_horizon, question2, question4, pair_questions, asking}
-use Rattle.bounds.specs.declared.Asked.{Asked}
-use Rattle.bounds.specs.declared.Asked.TheVariants.{Passes, UpperLength, LowerLength, FigureLimit}
-use Rattle.bounds.specs.Answers.{asked_reply}
-use Rattle.bounds.proofs.Said.{yes_from}
+use Rattle.curves.proofs.Highest.{horizon_with, lower_with}
+use Rattle.curves.specs.Questions.{AllYes, result, refusal}
+use Rattle.bounds.specs.Bounds.{max_horizon, question2, question4, pair_questions}
 use Rattle.bounds.proofs.Laws.{even_with}
 use Rattle.history.specs.declared.History.{History}
-use Rattle.history.specs.declared.Opening.{Opening}
-use Rattle.history.specs.contracts.Opening.{the_type}
-use Rattle.history.specs.declared.Opening.TheVariants.{Opened}
-use Rattle.history.specs.declared.Opening.TheVariants as opening
 use Rattle.history.specs.States.{Legal, view_of, entries, history_of}
 use Rattle.history.specs.Opening.{opening, fresh, zero_history, Begun}
-use Rattle.history.specs.Answers.{opening_reply}
-use Rattle.history.specs.Steps.{opening_for, padded_to, view_with}
+use Rattle.history.specs.Steps.{padded_to, view_with}
 
 -- ---- a view of a state
 -- The entries that count are a part of the array, where it has them.
@@ -48,6 +35,9 @@ module _ (s : History) where
   -- A view has as many figures and held ticks as the two fields say.
   pub horizon_seen : horizon (curves_of (view_of s).pair) ≡ s.horizon
   horizon_seen = horizon_with _ _ s.unlimited ∙ length-table (figure 0 s.upper) s.horizon
+
+  pub lower_seen : length (curves_of (view_of s).pair).lower ≡ s.horizon
+  lower_seen = ap length (lower_with _ _ s.unlimited) ∙ length-table (figure 0 s.lower) s.horizon
 
   pub held_seen : length (view_of s).held ≡ s.held
   held_seen = length-table (figure 0 s.ticks) s.held
@@ -77,49 +67,18 @@ module _ (s : History) where
         }
 
 -- ---- an opening
--- The figures are put over the first of an array of zeros.
-pub padded_is : (us zeros out : List ℕ) (same : Bool) → length us ≤ max_horizon → zeros ≡ replicate max_horizon 0
-    → Copied us zeros out same → out ≡ padded_to us
-padded_is us zeros out same h z c =
-    beginning c (omega (arith, ap length z, length-replicate {A = ℕ} max_horizon 0)) ∙ ap (λ l. us ++ drop (length us) l) z
-
--- They are the entries that count.
+-- Figures at the front of an array are the entries that count.
 pub entries_padded : (us rest : List ℕ) (h : ℕ) → length us ≡ h → entries h (us ++ rest) ≡ us
 entries_padded us rest h e =
     entries-take h (us ++ rest) (omega (arith, e, length-append us rest)) ∙ take_at us rest h e
 
--- Three arrays of zeros make a history of zeros.
-pub zero-history-is
-    : (us ls xs : List ℕ) → us ≡ replicate max_horizon 0 → ls ≡ replicate max_horizon 0 → xs ≡ replicate max_horizon 0
-    → history_of 0 us ls false 0 xs ≡ zero_history
-unfolding zero_history
-zero-history-is us ls xs u l x = λ i. history_of 0 (u i) (l i) false 0 (x i)
+-- ---- the history that is handed out: where the pair passes, and where it is refused
+module _ (p : AnyPair) (h : History) where
+  pub begun_fresh : result tt ≡ opening p → view_of h ≡ fresh p → Begun (opening p) p h
+  begun_fresh e v = rw (← e) v
 
--- ---- the answer of an opening
-module _ (p : AnyPair) where
-  pub answers : (a : Asked) → asked_reply a ≡ asking p → opening_reply (opening_for a) ≡ opening p
-  answers Passes e = e
-  answers UpperLength e = e
-  answers LowerLength e = e
-  answers FigureLimit e = e
-
-  -- Where it is not refused, all are answered yes.
-  pub opened_yes : (o : Opening) → o ≡ Opened → opening_reply o ≡ opening p → AllYes (pair_questions p)
-  opened_yes o k e = yes_from p (sym e ∙ ap opening_reply k)
-
--- The history that is handed out, in the arm where it is not refused, and in the one for all else.
-module _ (p : AnyPair) (h : History) (o : Opening) (e : opening_reply o ≡ opening p) where
-  pub begun_fresh : o ≡ Opened → view_of h ≡ fresh p → Begun (opening p) p h
-  begun_fresh k v = rw (← e, k) v
-
-  pub begun_zero : OneOf (1 ∷ 2 ∷ 3 ∷ []) (tag_of the_type o) → h ≡ zero_history → Begun (opening p) p h
-  begun_zero m b = rw (← e) (refused o m)
-    where
-      refused : (o : Opening) → OneOf (1 ∷ 2 ∷ 3 ∷ []) (tag_of the_type o) → Begun (opening_reply o) p h
-      refused Opened m = absurd (miss (1 ∷ 2 ∷ 3 ∷ []) 0 tt m)
-      refused opening.UpperLength m = b
-      refused opening.LowerLength m = b
-      refused opening.FigureLimit m = b
+  pub begun_zero : (n : ℕ) → refusal n ≡ opening p → h ≡ zero_history → Begun (opening p) p h
+  begun_zero n e z = rw (← e) z
 
 -- ---- the history that an opening hands out
 -- Both lists fit into the arrays.

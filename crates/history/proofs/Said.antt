@@ -1,11 +1,12 @@
 -- What question 12 says of a history, case by case. Assumes nothing.
-use Rattle.laws.proofs.Base.{◌≡◌, refl, sym, ap, ◌∙◌, inl}
+use Rattle.std.specs.Prelude.{Result, Ok, Err}
+use Rattle.laws.proofs.Base.{◌≡◌, refl, sym, ◌∙◌, inl}
 use Rattle.curves.specs.Questions.{result, refusal}
 use Rattle.curves.proofs.Asked.{said_no, said_yes, result_from, no_refusal}
-use Rattle.history.specs.declared.Legality.{Legality}
-use Rattle.history.specs.declared.Legality.TheVariants as case
-use Rattle.history.specs.States.{View, Legal, legality}
-use Rattle.history.specs.Answers.{legality_reply}
+use Rattle.history.specs.declared.BadState.{BadState}
+use Rattle.history.specs.declared.View as declared
+use Rattle.history.specs.States.{View, Legal, legality, viewing}
+use Rattle.history.specs.Answers.{view_in, view_reply}
 
 module _ (v : View) where
   pub legality_yes : Legal v → result tt ≡ legality v
@@ -16,10 +17,20 @@ module _ (v : View) where
   unfolding legality
   legality_no n = sym (said_no _ _ _ 12 (inl (refl, n)))
 
-  module _ (r : Legality) (told : legality_reply r ≡ legality v) where
-    pub legal_from : r ≡ case.Legal → Legal v
-    unfolding legality
-    legal_from e = (result_from _ _ tt (sym told ∙ ap legality_reply e)).0.0
+  pub viewing_yes : Legal v → result v ≡ viewing v
+  unfolding viewing
+  viewing_yes l = sym (said_yes _ _ _ (result v) (l, tt) (λ _. refl))
 
-    pub illegal_from : r ≡ case.BadState → ¬ Legal v
-    illegal_from e l = no_refusal tt 12 (legality_yes l ∙ sym told ∙ ap legality_reply e)
+  pub viewing_no : ¬ Legal v → refusal 12 ≡ viewing v
+  unfolding viewing
+  viewing_no n = sym (said_no _ _ _ 12 (inl (refl, n)))
+
+  -- What handing out the view tells: it is legal, and these slices are what it has; or it is not.
+  abbrev pub Seen : Result declared.View BadState → Type 0
+  Seen (Ok w) = Legal v × (view_in w ≡ v)
+  Seen (Err e) = ¬ Legal v
+
+  pub seen : (r : Result declared.View BadState) → view_reply r ≡ viewing v → Seen r
+  unfolding viewing
+  seen (Ok w) e = let (ys, same) = result_from _ _ (view_in w) (sym e) in (ys.0, sym same)
+  seen (Err x) e = λ l. no_refusal v 12 (viewing_yes l ∙ sym e)

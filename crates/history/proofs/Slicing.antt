@@ -6,14 +6,14 @@ use lib.Seq.{take-take}
 use Rattle.curves.specs.Pairs.{horizon}
 use Rattle.curves.specs.Unlimited.{with_mark, curves_of}
 use Rattle.curves.specs.Ticks.{then, newest, Judged}
-use Rattle.curves.proofs.Highest.{horizon_with}
+use Rattle.curves.proofs.Highest.{horizon_with, lower_with}
 use Rattle.curves.proofs.NextTick.{length-then}
 use Rattle.bounds.specs.Bounds.{max_horizon}
 use Rattle.lists.specs.Pushing.{behind, held_with, Pushed}
 use Rattle.history.specs.declared.History.{History}
-use Rattle.history.specs.States.{View, entries, history_of, view_of, added}
+use Rattle.history.specs.States.{View, Legal, entries, history_of, view_of, added}
 use Rattle.history.specs.Steps.{Slices, view_with}
-use Rattle.history.proofs.Histories.{entries-take, entries_padded, Sizes, horizon_seen}
+use Rattle.history.proofs.Histories.{entries-take, entries_padded, Sizes, legal_sizes, horizon_seen, lower_seen, held_seen}
 
 -- How long the arrays are.
 pub record Arrays (h : History) : Type 0 where
@@ -101,6 +101,15 @@ module _ (h : History) (A : Arrays h) (Z : Sizes h) where
           (p.entries ∙ ap (λ ys. ys ++ drop (length kept) places) (take_all (length places) kept few))
           ∙ ap (entries n) (append_assoc kept _ _)
           ∙ entries_padded kept _ n (sym p.number)
+
+-- Slices that are the view of a history of legal sizes have these sizes.
+pub slices_seen : (h : History) (us ls xs : List ℕ) (b : Bool) → Legal (view_of h) → view_with us ls b xs ≡ view_of h → Slices us ls xs
+slices_seen h us ls xs b l e =
+    let z : Sizes h = legal_sizes h l in
+    let uppers : length us ≡ h.horizon = sym (horizon_with us ls b) ∙ ap (λ v. horizon (curves_of v.pair)) e ∙ horizon_seen h in
+    let lowers : length ls ≡ h.horizon = ap length (sym (lower_with us ls b)) ∙ ap (λ v. length (curves_of v.pair).lower) e ∙ lower_seen h in
+    let counts : length xs ≡ h.held = ap (λ v. length v.held) e ∙ held_seen h in
+    record { lowers = omega arith; within = omega arith; fewer = omega arith }
 
 -- The window of d + 1 ticks that ends at the next one is judged: there are fewer held ticks than figures.
 pub judged-next

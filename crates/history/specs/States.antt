@@ -55,3 +55,7 @@ question12 v = record { number = 12; asked = Legal v; answered = legal? v }
 -- What asking it answers.
 unfoldable pub legality : View → Reply (Unit {0})
 legality v = reply_to (question12 v ∷ []) (λ _. tt)
+
+-- And what an operation that hands out the view then answers.
+unfoldable pub viewing : View → Reply View
+viewing v = reply_to (question12 v ∷ []) (λ _. v)

@@ -2,18 +2,7 @@
 use Rattle.std.specs.Prelude.{ℕ, ◌≤◌, ◌<◌, ◌≡◌, Bool, List, ◌++◌, length, drop, replicate}
 use Rattle.curves.specs.Unlimited.{with_mark}
 use Rattle.bounds.specs.Bounds.{max_horizon}
-use Rattle.bounds.specs.declared.Asked.{Asked}
-use Rattle.bounds.specs.declared.Asked.TheVariants as asked
-use Rattle.history.specs.declared.Opening.{Opening}
-use Rattle.history.specs.declared.Opening.TheVariants as opening
 use Rattle.history.specs.States.{View}
-
--- What an opening answers to what was found of the lists.
-abbrev pub opening_for : Asked → Opening
-opening_for asked.Passes = opening.Opened
-opening_for asked.UpperLength = opening.UpperLength
-opening_for asked.LowerLength = opening.LowerLength
-opening_for asked.FigureLimit = opening.FigureLimit
 
 -- Figures at the front of an array, and 0 after them.
 abbrev pub padded_to : List ℕ → List ℕ

@@ -2,24 +2,25 @@
 
 #![tactic(auto)]
 
-ghost use Rattle.std.specs.Prelude.{◌≡◌, ◌≤◌, length};
-ghost use Rattle.curves.specs.Unlimited.{with_mark};
+ghost use Rattle.std.specs.Prelude.{◌≡◌, ◌≤◌, length, take, IfOk};
 ghost use Rattle.curves.specs.Questions.{AllYes};
+ghost use Rattle.bounds.specs.Answers.{curves_in};
 ghost use Rattle.bounds.specs.Bounds.{max_horizon, pair_questions};
-ghost use Rattle.history.specs.States.{view_of, legality};
-ghost use Rattle.history.specs.Opening.{opening, fresh, zero_history, Begun};
-ghost use Rattle.history.specs.Answers.{opening_reply, legality_reply};
-ghost use Rattle.history.specs.Promises.{HistoryOpened, LegalityAsked};
-ghost use Rattle.history.specs.Steps.{opening_for, padded_to};
+ghost use Rattle.history.specs.States.{view_of, legality, viewing};
+ghost use Rattle.history.specs.Opening.{fresh, zero_history};
+ghost use Rattle.history.specs.Answers.{legality_reply, view_reply};
+ghost use Rattle.history.specs.Promises.{HistoryOpened};
+ghost use Rattle.history.specs.Steps.{padded_to};
 
-use bounds::Asked;
+use bounds::{Curves, PairRefusal};
 
 // The longest horizon, and the largest figure.
 const MAX_HORIZON: usize = 256;
 
 const FIGURE_LIMIT: u32 = 16_776_960;
 
-// Anyone may build one. Entries of the figures past the horizon, and of the ticks past the held ones, have no effect.
+// Anyone may build one, so its parts are plain numbers and arrays with their lengths beside them: no memory is asked for, and the states'
+// words in C lie so. Entries of the figures past the horizon, and of the ticks past the held ones, have no effect.
 #[derive(Clone, Copy)]
 pub struct History {
     pub horizon: usize,
@@ -34,40 +35,44 @@ pub struct History {
     pub ticks: [u32; MAX_HORIZON],
 }
 
-// What opening a history answers: it is ready, or document 01's question is answered no. A monitor's and a generator's opening ask more.
+// What counts of a history: the figures up to its horizon, and the held ticks.
 #[derive(Clone, Copy)]
-pub enum Opening {
-    Opened,
-    // 1: the upper list is not 1 to 256 long.
-    UpperLength,
-    // 2: the lower list has another length.
-    LowerLength,
-    // 4: a figure is above 16,776,960; ceilings count where there are any, here and below.
-    FigureLimit,
+pub struct View<'a> {
+    pub curves: Curves<'a>,
+    pub ticks: &'a [u32],
 }
 
-// What an opening hands out.
+// What an opening hands out: whether it is ready, and the history, which is promised where it is not, too (`HistoryOpened`). A monitor's and
+// a generator's opening ask more.
 #[derive(Clone, Copy)]
 pub struct OpenedHistory {
-    pub opening: Opening,
+    pub opening: Result<(), PairRefusal>,
     pub history: History,
 }
 
-// What asking question 12 finds: every operation on a state asks it first.
-#[derive(Clone, Copy)]
-pub enum Legality {
-    Legal,
-    // 12: the horizon is not 1 to 256, a figure is above 16,776,960, or as many ticks are held as the horizon has or more.
-    BadState,
+// 12, which every operation on a state asks first: the horizon is not 1 to 256, a figure is above 16,776,960 (ceilings count where there
+// are any), or as many ticks are held as the horizon has or more.
+#[derive(Clone, Copy, PartialEq, Eq)]
+pub struct BadState;
+
+impl From<BadState> for u32 {
+    ghost from_gives = { λ _ number. number ≡ 12 };
+
+    fn from(_: BadState) -> u32 {
+        12
+    }
 }
 
 impl History {
     // The history of a stream that has not begun; where the opening is refused, all of it is 0.
-    pub fn open(upper: &[u32], lower: &[u32], unlimited: bool) -> OpenedHistory
-        ensures { HistoryOpened (with_mark upper.now lower.now unlimited) result }
+    pub fn open(curves: Curves) -> OpenedHistory
+        ensures { HistoryOpened (curves_in curves.entry) result }
     {
-        let opening = ask_opening(upper, lower, unlimited);
-        let history = begin(opening, upper, lower, unlimited);
+        let opening = curves.ask();
+        let history = match opening {
+            Ok(()) => unbegun(curves),
+            Err(_) => History::zero(),
+        };
         OpenedHistory { opening, history }
     }
 
@@ -75,105 +80,60 @@ impl History {
     pub fn zero() -> History
         ensures { result ≡ zero_history }
     {
-        let upper = lists::zeros();
-        let lower = lists::zeros();
-        let ticks = lists::zeros();
         History {
             horizon: 0,
-            upper,
-            lower,
+            upper: [0; MAX_HORIZON],
+            lower: [0; MAX_HORIZON],
             unlimited: false,
             held: 0,
-            ticks,
+            ticks: [0; MAX_HORIZON],
         }
     }
 
     // Question 12.
-    pub fn legality(self) -> Legality
-        ensures { legality_reply result ≡ legality (view_of self) }
+    pub fn legality(&self) -> Result<(), BadState>
+        ensures { legality_reply result ≡ legality (view_of self.now) }
     {
-        let upper = self.upper;
-        let lower = self.lower;
-        ask_legality(self.horizon, &upper, &lower, self.unlimited, self.held)
+        self.view()?;
+        Ok(())
+    }
+
+    // Question 12, and what counts of the history. The ceilings up to the horizon are there without ceilings too, where they have no effect.
+    pub fn view(&self) -> Result<View<'_>, BadState>
+        ensures seen { view_reply result ≡ viewing (view_of self.now) }
+        ensures ceilings { IfOk result (λ w. w.curves.upper.now ≡ take self.now.horizon self.now.upper) }
+    {
+        let horizon = self.horizon;
+        if MAX_HORIZON < horizon || horizon <= self.held {
+            return Err(BadState);
+        }
+        let curves = Curves {
+            upper: &self.upper[..horizon],
+            lower: &self.lower[..horizon],
+            unlimited: self.unlimited,
+        };
+        if !curves.within(FIGURE_LIMIT) {
+            return Err(BadState);
+        }
+        Ok(View {
+            curves,
+            ticks: &self.ticks[..self.held],
+        })
     }
 }
 
-// Question 12, asked of the numbers and arrays of a history, for those who have taken them out of it. The ticks have no part in it.
-pub fn ask_legality(
-    horizon: usize,
-    upper: &[u32; MAX_HORIZON],
-    lower: &[u32; MAX_HORIZON],
-    unlimited: bool,
-    held: usize,
-) -> Legality
-    ensures { LegalityAsked horizon upper.now lower.now unlimited held result }
+// The history of a stream that has not begun.
+fn unbegun(curves: Curves) -> History
+    requires { AllYes (pair_questions (curves_in curves)) }
+    ensures { view_of result ≡ fresh (curves_in curves.entry) }
 {
-    if MAX_HORIZON < horizon {
-        return Legality::BadState;
-    }
-    if horizon <= held {
-        return Legality::BadState;
-    }
-    let upper_figures: &[u32] = upper;
-    let lower_figures: &[u32] = lower;
-    if !bounds::all_within(
-        &upper_figures[..horizon],
-        &lower_figures[..horizon],
-        unlimited,
-        FIGURE_LIMIT,
-    ) {
-        return Legality::BadState;
-    }
-    Legality::Legal
-}
-
-// Questions 1, 2 and 4.
-fn ask_opening(upper: &[u32], lower: &[u32], unlimited: bool) -> Opening
-    ensures { opening_reply result ≡ opening (with_mark upper.now lower.now unlimited) }
-{
-    opening_for(bounds::ask(upper, lower, unlimited))
-}
-
-// What an opening answers to what was found of the lists.
-fn opening_for(asked: Asked) -> Opening
-    ensures { result ≡ opening_for asked }
-{
-    match asked {
-        Asked::Passes => Opening::Opened,
-        Asked::UpperLength => Opening::UpperLength,
-        Asked::LowerLength => Opening::LowerLength,
-        Asked::FigureLimit => Opening::FigureLimit,
-    }
-}
-
-// The history that an opening hands out.
-fn begin(answer: Opening, upper: &[u32], lower: &[u32], unlimited: bool) -> History
-    requires { opening_reply answer ≡ opening (with_mark upper.now lower.now unlimited) }
-    ensures { Begun (opening (with_mark upper.now lower.now unlimited))
-        (with_mark upper.now lower.now unlimited) result }
-{
-    match answer {
-        Opening::Opened => unbegun(upper, lower, unlimited),
-        _ => History::zero(),
-    }
-}
-
-// That of a stream that has not begun.
-fn unbegun(upper: &[u32], lower: &[u32], unlimited: bool) -> History
-    requires { AllYes (pair_questions (with_mark upper.now lower.now unlimited)) }
-    ensures { view_of result ≡ fresh (with_mark upper.now lower.now unlimited) }
-{
-    let horizon = upper.len();
-    let upper_figures = padded(upper);
-    let lower_figures = padded(lower);
-    let ticks = lists::zeros();
     History {
-        horizon,
-        upper: upper_figures,
-        lower: lower_figures,
-        unlimited,
+        horizon: curves.upper.len(),
+        upper: padded(curves.upper),
+        lower: padded(curves.lower),
+        unlimited: curves.unlimited,
         held: 0,
-        ticks,
+        ticks: [0; MAX_HORIZON],
     }
 }
 
@@ -182,7 +142,7 @@ fn padded(figures: &[u32]) -> [u32; MAX_HORIZON]
     requires { length figures.now ≤ max_horizon }
     ensures { result ≡ padded_to figures.now }
 {
-    let mut out = lists::zeros();
-    lists::copy(figures, &mut out);
+    let mut out = [0; MAX_HORIZON];
+    out[..figures.len()].copy_from_slice(figures);
     out
 }

@@ -1,15 +1,11 @@
 // Numbers: written out, drawn, and boiled down.
 ghost use Rattle.std.specs.Prelude.{◌≤◌, ◌<◌};
 
+use std::fmt::Display;
 use std::io;
 
-// A number after a blank.
-pub(crate) fn show(rt: &impl Print, n: u64) -> io::Result<()> {
-    print!(rt; " {n}")
-}
-
-// The same, with a sign right before the digits where it is negative.
-pub(crate) fn show_signed(rt: &impl Print, n: i64) -> io::Result<()> {
+// A number after a blank, with a sign right before the digits where it is negative.
+pub(crate) fn show(rt: &impl Print, n: impl Display + Drop) -> io::Result<()> {
     print!(rt; " {n}")
 }
 
@@ -36,10 +32,8 @@ pub(crate) fn draw(case: u64, k: u64, end: u64) -> u64
 // Every number and its place have an effect.
 pub(crate) fn digest(numbers: &[u32]) -> u64 {
     let mut sum = 1;
-    let mut i = 0;
-    while i < numbers.len() {
-        sum = (sum * 31 + numbers[i] as u64) % 2147483648;
-        i += 1;
+    for number in numbers {
+        sum = (sum * 31 + u64::from(*number)) % 2147483648;
     }
     sum
 }

@@ -1,13 +1,9 @@
 // Pairs of many rounds: nine to a closure, which are the most that there can be, and eight to a least above its ceiling, which no answer
 // tells; eight without ceilings, the most that there can be there; and a text with a most and a record without one.
-ghost use Rattle.std.specs.Prelude.{◌≡◌, length};
-
 use crate::numbers;
 use std::io;
 
 const LIMIT: u32 = 16_776_960;
-
-const LARGEST: u32 = 4_294_967_295;
 
 const MAX_HORIZON: usize = 256;
 
@@ -24,28 +20,26 @@ pub(crate) fn try_all(rt: &impl Print) -> io::Result<()> {
 
 // The pair of a text, with its mark: where that is set, the ceilings are the largest numbers still.
 fn try_text(rt: &impl Print, text: &[u8]) -> io::Result<()> {
-    let mut upper = figures(LARGEST);
-    let mut lower = figures(0);
+    let mut upper = [u32::MAX; MAX_HORIZON];
+    let mut lower = [0; MAX_HORIZON];
     let answer = exports::calgedze_read(text, &mut upper, &mut lower);
     let mark = mark_of(answer);
-    let horizon = answer % UNLIMITED;
-    if horizon <= 256 {
-        let h = horizon as usize;
-        try_closing(rt, &upper[..h], &lower[..h], mark)?;
+    let horizon = (answer % UNLIMITED) as usize;
+    if horizon <= MAX_HORIZON {
+        try_closing(rt, &upper[..horizon], &lower[..horizon], mark)?;
     }
     Ok(())
 }
 
 // The mark in an answer; none is in a refusal's.
 fn mark_of(answer: u64) -> u32 {
-    let bit = answer / UNLIMITED % 2;
-    bit as u32
+    (answer / UNLIMITED % 2) as u32
 }
 
 // A ceiling of 40,000 messages a tick in 5 ticks, and a least of as many in 253.
 fn try_two_windows(rt: &impl Print) -> io::Result<()> {
-    let mut upper = figures(LIMIT);
-    let mut lower = figures(0);
+    let mut upper = [LIMIT; MAX_HORIZON];
+    let mut lower = [0; MAX_HORIZON];
     upper[4] = 200_000;
     lower[252] = 10_120_000;
     try_closing(rt, &upper, &lower, 0)
@@ -53,8 +47,8 @@ fn try_two_windows(rt: &impl Print) -> io::Result<()> {
 
 // What closing the pair answers, and what it leaves of lists of 256 entries.
 fn try_closing(rt: &impl Print, upper: &[u32], lower: &[u32], mark: u32) -> io::Result<()> {
-    let mut closed_upper = figures(7);
-    let mut closed_lower = figures(7);
+    let mut closed_upper = [7; MAX_HORIZON];
+    let mut closed_lower = [7; MAX_HORIZON];
     print!(rt; "rounds")?;
     numbers::show(rt, upper.len() as u64)?;
     numbers::show(
@@ -67,10 +61,4 @@ fn try_closing(rt: &impl Print, upper: &[u32], lower: &[u32], mark: u32) -> io::
         numbers::digest(&closed_lower),
     )?;
     print!(rt; "\n")
-}
-
-fn figures(figure: u32) -> [u32; MAX_HORIZON]
-    ensures { length result ≡ 256 }
-{
-    [figure; MAX_HORIZON]
 }

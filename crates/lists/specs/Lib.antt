@@ -1,4 +1,3 @@
 -- Copying a list, and putting a count behind its held entries.
 pub mod Copying
 pub mod Pushing
-pub mod Steps

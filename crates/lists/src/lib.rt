@@ -2,10 +2,9 @@
 
 #![tactic(auto)]
 
-ghost use Rattle.std.specs.Prelude.{◌≡◌, ◌+◌, ◌≤◌, min, length, replicate};
+ghost use Rattle.std.specs.Prelude.{◌≡◌, replicate};
 ghost use Rattle.lists.specs.Copying.{Copied};
 ghost use Rattle.lists.specs.Pushing.{Pushed, PushedAll};
-ghost use Rattle.lists.specs.Steps.{shifted_down, moved_down};
 
 // As many entries as the longest horizon has windows.
 const MAX_HORIZON: usize = 256;
@@ -17,21 +16,16 @@ pub fn zeros() -> [u32; MAX_HORIZON]
     [0u32; MAX_HORIZON]
 }
 
-// Puts the figures of `from` over those of `to`, as many as there is room for, and tells whether they stood there already: one loop for
-// both, as a round that changes nothing is the last.
+// Puts the figures of `from` over those of `to`, as many as there is room for, and tells whether they stood there already: one pass to
+// compare and one to copy.
 pub fn copy(from: &[u32], to: &mut [u32]) -> bool
     ensures { Copied from.now to.old to.new result }
 {
-    let mut same = true;
-    let mut i = 0;
-    while i < from.len() {
-        if to.len() <= i {
-            return same;
-        }
-        same = same & (to[i] == from[i]);
-        to[i] = from[i];
-        i += 1;
-    }
+    let n = from.len().min(to.len());
+    let figures = &from[..n];
+    let places = &mut to[..n];
+    let same = *places == *figures;
+    places.copy_from_slice(figures);
     same
 }
 
@@ -46,7 +40,7 @@ pub fn push(list: &mut [u32], held: usize, count: u32) -> usize
         return held + 1;
     }
     if 0 < room {
-        shift_down(list);
+        list.copy_within(1.., 0);
         list[room - 1] = count;
     }
     room
@@ -59,43 +53,12 @@ pub fn push_all(list: &mut [u32], held: usize, counts: &[u32]) -> usize
     let room = list.len();
     let n = counts.len();
     if room <= n {
-        copy(&counts[n - room..], list);
+        list.copy_from_slice(&counts[n - room..]);
         return room;
     }
-    let there = smaller(held, room);
-    let kept = smaller(there, room - n);
-    move_down(list, there - kept, kept);
-    copy(counts, &mut list[kept..]);
+    let there = held.min(room);
+    let kept = there.min(room - n);
+    list.copy_within(there - kept..there, 0);
+    list[kept..kept + n].copy_from_slice(counts);
     kept + n
-}
-
-fn smaller(a: usize, b: usize) -> usize
-    ensures { result ≡ min a b }
-{
-    if a < b { a } else { b }
-}
-
-// The first n places get what those `by` places further on held; the others keep their own.
-fn move_down(list: &mut [u32], by: usize, n: usize)
-    requires { by + n ≤ length list.old }
-    ensures { list.new ≡ moved_down by n list.old }
-{
-    let mut i = 0;
-    while i < n {
-        list[i] = list[i + by];
-        i += 1;
-    }
-}
-
-// Each place gets what the next one held; the last keeps its own.
-fn shift_down(list: &mut [u32])
-    requires { 1 ≤ length list.old }
-    ensures { list.new ≡ shifted_down list.old }
-{
-    let last = list.len() - 1;
-    let mut i = 0;
-    while i < last {
-        list[i] = list[i + 1];
-        i += 1;
-    }
 }

@@ -1,9 +1,8 @@
 -- Laws over plain variables for an opening: its answer from those of the questions and of closing, and the state that is handed out.
 -- Assumes nothing.
-use Rattle.laws.proofs.Base.{ℕ, ◌≤◌, ◌^◌, ◌≡◌, refl, sym, ap, ◌∙◌, subst, Bool, true, false, List, [], ◌∷◌, ⊎_elim, arith, length, take}
-use Rattle.laws.proofs.Base.{replicate}
-use types.Run.{OneOf, miss}
-use denote.Enum.Declared.{tag_of}
+use Rattle.std.specs.Prelude.{Result, Ok, Err}
+use Rattle.laws.proofs.Base.{ℕ, ◌≤◌, ◌^◌, ◌≡◌, refl, sym, ap, ◌∙◌, subst, Bool, true, false, List, ⊎_elim, arith, length, take}
+use Rattle.std.proofs.lemmas.Bool.{false≢true}
 use Rattle.curves.specs.Streams.{count_limit}
 use Rattle.curves.specs.Pairs.{Pair, pair_of, first, horizon, FiguresWithin}
 use Rattle.curves.specs.Unlimited.{AnyPair, limited, unlimited, with_mark, curves_of, sums_after}
@@ -11,47 +10,29 @@ use Rattle.curves.specs.Questions.{AllYes, FirstNo, result, refusal}
 use Rattle.curves.specs.Theorems.{Closes, leasts_only}
 use Rattle.curves.proofs.Highest.{length-highest}
 use Rattle.curves.proofs.Parts.{sums_arrive_within_logarithm}
-use Rattle.bounds.specs.declared.Asked.{Asked}
-use Rattle.bounds.specs.declared.Asked.TheVariants as asked
-use Rattle.bounds.specs.Bounds.{max_horizon, pair_questions, asking}
-use Rattle.bounds.specs.Answers.{asked_reply}
-use Rattle.bounds.proofs.Said.{asking_yes, Found, found, more_yes, more_first_no, more_no, more_from}
-use Rattle.closure.specs.declared.Closing.{Closing}
-use Rattle.closure.specs.declared.Closing.TheVariants as closing
+use Rattle.bounds.specs.Bounds.{max_horizon, pair_questions}
+use Rattle.bounds.specs.declared.PairRefusal.TheVariants.{UpperLength, LowerLength, FigureLimit}
+use Rattle.bounds.specs.Answers.{pair_refusal_number}
+use Rattle.bounds.proofs.Said.{asking_yes, more_yes, more_first_no, more_no, more_from}
+use Rattle.closure.specs.declared.Closed.{Closed}
+use Rattle.closure.specs.declared.ClosingRefusal.{ClosingRefusal}
+use Rattle.closure.specs.declared.ClosingRefusal.TheVariants as closing_refusal
 use Rattle.closure.specs.Closing.{question5, ClosingAnswer, closing}
-use Rattle.closure.specs.Answers.{closing_answer}
+use Rattle.closure.specs.Answers.{closing_refusal_number, closing_answer}
 use Rattle.closure.specs.Theorems.{GivesClosure, closure_of, room}
 use Rattle.closure.proofs.Said.{refused_is, closed_is, cases}
-use Rattle.closure.proofs.Room.{room_passes, Told, told}
+use Rattle.closure.proofs.Given.{answer_mark}
+use Rattle.closure.proofs.Room.{room_passes, told}
 use Rattle.history.specs.declared.History.{History}
 use Rattle.history.specs.States.{View, view_of, entries}
 use Rattle.history.specs.Opening.{opening, fresh, Begun, zero_history}
 use Rattle.history.proofs.Histories.{entries-take, horizon_seen}
-use Rattle.monitor.specs.declared.MonitorOpening.{MonitorOpening}
-use Rattle.monitor.specs.declared.MonitorOpening.TheVariants as opened
-use Rattle.monitor.specs.contracts.MonitorOpening as the-opening
+use Rattle.monitor.specs.declared.Monitor.{Monitor}
+use Rattle.monitor.specs.declared.MonitorRefusal.{MonitorRefusal}
+use Rattle.monitor.specs.declared.MonitorRefusal.TheVariants as monitor_refusal
 use Rattle.monitor.specs.Monitoring.{monitor_of, monitor_view, closed_in, monitor_view_of}
 use Rattle.monitor.specs.Opening.{monitor_opening, fresh_monitor, zero_monitor, MonitorBegun}
-use Rattle.monitor.specs.Answers.{monitor_opening_reply}
-use Rattle.monitor.specs.Steps.{monitor_opening_for, opening_without, OpeningAsked, begun_as}
-
--- ---- the arm for all other cases
-pub begun_zero : (o : MonitorOpening) (h : History) (us ls : List ℕ) → OneOf (1 ∷ 2 ∷ 3 ∷ 4 ∷ []) (tag_of the-opening.the_type o)
-    → zero_monitor ≡ begun_as o h us ls
-begun_zero opened.Opened h us ls m = absurd (miss (1 ∷ 2 ∷ 3 ∷ 4 ∷ []) 0 tt m)
-begun_zero opened.UpperLength h us ls m = refl
-begun_zero opened.LowerLength h us ls m = refl
-begun_zero opened.FigureLimit h us ls m = refl
-begun_zero opened.NoClosure h us ls m = refl
-
-pub begun_opened : (o : MonitorOpening) (h : History) (us ls : List ℕ) → o ≡ opened.Opened → monitor_of h us ls false ≡ begun_as o h us ls
-begun_opened o h us ls e = rw e refl
-
--- ---- the state of a refused opening
-pub zero_is : (h : History) (us ls : List ℕ) → h ≡ zero_history → us ≡ replicate max_horizon 0 → ls ≡ replicate max_horizon 0
-    → monitor_of h us ls false ≡ zero_monitor
-unfolding zero_monitor
-zero_is h us ls e u l = λ i. monitor_of (e i) (u i) (l i) false
+use Rattle.monitor.specs.Steps.{OpeningAsked}
 
 -- ---- the answer
 module _ (p : AnyPair) where
@@ -59,7 +40,7 @@ module _ (p : AnyPair) where
   unfolding monitor_opening
   opening_yes = more_yes p (question5 p)
 
-  first_no : (n : ℕ) → FirstNo (pair_questions p) n → refusal n ≡ monitor_opening p
+  pub first_no : (n : ℕ) → FirstNo (pair_questions p) n → refusal n ≡ monitor_opening p
   unfolding monitor_opening
   first_no = more_first_no p (question5 p)
 
@@ -76,6 +57,14 @@ module _ (p : AnyPair) where
   opened_yes e = (opened_from e).0
 
 -- ---- of a pair with ceilings
+-- No refusal has the number 0.
+numbered : (e : ClosingRefusal) → 1 ≤ closing_refusal_number e
+numbered (closing_refusal.Pair UpperLength) = omega arith
+numbered (closing_refusal.Pair LowerLength) = omega arith
+numbered (closing_refusal.Pair FigureLimit) = omega arith
+numbered closing_refusal.ResultLength = omega arith
+numbered closing_refusal.NoClosure = omega arith
+
 module _ (c : Pair) where
   -- Where the opening is not refused, closing gives the closure.
   pub opened_gives : monitor_opening (limited c) ≡ result tt → GivesClosure (limited c) room
@@ -83,29 +72,21 @@ module _ (c : Pair) where
       let (ys, (n, q, a)) = opened_from (limited c) e in
       ap (λ r. r.number) (closed_is (limited c) room n q (room_passes c ys) a)
 
-  -- What closing's answer tells decides.
-  answered : (k : Closing) → Told c k → monitor_opening_reply (monitor_opening_for k) ≡ monitor_opening (limited c)
-  answered (closing.Closed n b) (ys, (q, a)) = opening_yes (limited c) ys (n, q, a)
-  answered closing.UpperLength f = first_no (limited c) 1 f
-  answered closing.LowerLength f = first_no (limited c) 2 f
-  answered closing.ResultLength f = absurd f
-  answered closing.FigureLimit f = first_no (limited c) 4 f
-  answered closing.NoClosure (ys, n) = opening_fifth (limited c) ys n
-
-  -- The mark of what closing answers is the pair's.
-  no_mark : (closing (limited c) room).unlimited ≡ false
-  no_mark =
-      ⊎_elim
-      (λ (n, f). ap (λ a. a.unlimited) (refused_is (limited c) room n f))
-      (λ (ok, (n, q, a)). ap (λ r. r.unlimited) (closed_is (limited c) room n q ok a))
-      (cases (limited c) room)
-
-  closed_left : (k : Closing) (left : Pair) → closing_answer k left ≡ closing (limited c) room
+  closed_left : (k : Closed) (left : Pair) → closing_answer (Ok k) left ≡ closing (limited c) room
       → first (horizon c) left ≡ curves_of (closure_of (limited c) room)
   closed_left k left e =
       let r : Pair = (closing (limited c) room).results in
+      let mark : (closing (limited c) room).unlimited ≡ false = answer_mark (limited c) room (sym (ap (λ a. a.number) e)) in
       ap (λ (a : ClosingAnswer). first (horizon c) a.results) e
-      ∙ (λ i. curves_of (with_mark (take (horizon c) r.upper) (take (horizon c) r.lower) (sym no_mark i)))
+      ∙ (λ i. curves_of (with_mark (take (horizon c) r.upper) (take (horizon c) r.lower) (sym mark i)))
+
+  -- A refusal leaves the lists as they were.
+  none_left : (e : ClosingRefusal) (left : Pair) → closing_answer (Err e) left ≡ closing (limited c) room → left ≡ room
+  none_left e left a =
+      ⊎_elim
+      (λ (n, f). ap (λ r. r.results) (a ∙ refused_is (limited c) room n f))
+      (λ (ok, (n, q, s)). absurd (omega (arith, numbered e, ap (λ r. r.number) (a ∙ closed_is (limited c) room n q ok s))))
+      (cases (limited c) room)
 
 -- ---- of an unlimited one
 -- Question 5 is always answered yes.
@@ -117,52 +98,73 @@ leasts_close h ls ys =
     let (n, few, a) = sums_arrive_within_logarithm ls 8 small short in
     subst (λ k. Closes (curves_of (unlimited k ls))) e (n, leasts_only (sums_after n ls), a)
 
-answered_without : (h : ℕ) (ls : List ℕ) (a : Asked) → Found (unlimited h ls) a
-    → monitor_opening_reply (opening_without a) ≡ monitor_opening (unlimited h ls)
-answered_without h ls asked.Passes ys = opening_yes (unlimited h ls) ys (leasts_close h ls ys)
-answered_without h ls asked.UpperLength f = first_no (unlimited h ls) 1 f
-answered_without h ls asked.LowerLength f = first_no (unlimited h ls) 2 f
-answered_without h ls asked.FigureLimit f = first_no (unlimited h ls) 4 f
-
--- ---- by the mark
-module _ (us ls : List ℕ) (b : Bool) (left : Pair) (o : MonitorOpening) where
-  pub asked_closing : (k : Closing) (found : Pair) → b ≡ false → found ≡ room → o ≡ monitor_opening_for k
-      → closing_answer k left ≡ closing (with_mark us ls false) found → OpeningAsked (with_mark us ls b) left o
-  asked_closing k found f in-room is e =
-      let closes : closing_answer k left ≡ closing (with_mark us ls false) room = e ∙ ap (closing (with_mark us ls false)) in-room in
-      rw f (record {
-        answer = ap monitor_opening_reply is ∙ answered (pair_of us ls) k (told (pair_of us ls) k left closes);
-        closed = closed_left (pair_of us ls) k left closes;
-      })
-
-  pub asked_without : (a : Asked) → b ≡ true → o ≡ opening_without a → asked_reply a ≡ asking (with_mark us ls true)
-      → OpeningAsked (with_mark us ls b) left o
-  asked_without a t is e =
-      rw t (record {
-        answer = ap monitor_opening_reply is ∙ answered_without (length us) ls a (found (with_mark us ls true) a e);
+-- ---- the answer to the questions on the lists and a mark
+module _ (us ls : List ℕ) where
+  pub without_ceilings : (b : Bool) (left : Pair) → b ≡ true → AllYes (pair_questions (with_mark us ls b))
+      → OpeningAsked (with_mark us ls b) left (Ok tt)
+  without_ceilings true left e ys =
+      record {
+        answer = opening_yes (unlimited (length us) ls) ys (leasts_close (length us) ls ys);
         closed = refl;
-      })
+      }
+  without_ceilings false left e ys = absurd (false≢true e)
+
+  -- What follows from each answer of closing.
+  abbrev pub From_closing : Bool → Pair → Result Closed ClosingRefusal → Type 0
+  From_closing b left (Ok k) = OpeningAsked (with_mark us ls b) left (Ok tt)
+  From_closing b left (Err (closing_refusal.Pair r)) = OpeningAsked (with_mark us ls b) left (Err (monitor_refusal.Pair r))
+  From_closing b left (Err closing_refusal.ResultLength) = ⊥
+  From_closing b left (Err closing_refusal.NoClosure) = OpeningAsked (with_mark us ls b) left (Err monitor_refusal.NoClosure)
+
+  in_room : (left : Pair) (r : Result Closed ClosingRefusal) → closing_answer r left ≡ closing (with_mark us ls false) room
+      → From_closing false left r
+  in_room left (Ok k) e =
+      let c : Pair = pair_of us ls in
+      let (ys, (q, a)) = told c (Ok k) left e in
+      record { answer = opening_yes (limited c) ys (k.rounds, q, a); closed = closed_left c k left e }
+  in_room left (Err (closing_refusal.Pair r)) e =
+      let c : Pair = pair_of us ls in
+      record {
+        answer = first_no (limited c) (pair_refusal_number r) (told c (Err (closing_refusal.Pair r)) left e);
+        closed = none_left c (closing_refusal.Pair r) left e;
+      }
+  in_room left (Err closing_refusal.ResultLength) e = told (pair_of us ls) (Err closing_refusal.ResultLength) left e
+  in_room left (Err closing_refusal.NoClosure) e =
+      let c : Pair = pair_of us ls in
+      let (ys, n) = told c (Err closing_refusal.NoClosure) left e in
+      record { answer = opening_fifth (limited c) ys n; closed = none_left c closing_refusal.NoClosure left e }
+
+  pub from_closing : (b : Bool) (found left : Pair) (k r : Result Closed ClosingRefusal) → b ≡ false → found ≡ room
+      → closing_answer k left ≡ closing (with_mark us ls b) found → k ≡ r → From_closing b left r
+  from_closing true found left k r f z e is = absurd (false≢true (sym f))
+  from_closing false found left k r f z e is =
+      subst (From_closing false left) is (in_room left k (e ∙ ap (closing (with_mark us ls false)) z))
 
 -- ---- the state
-module _ (p : AnyPair) (h : History) (us ls : List ℕ) (wide : length us ≡ max_horizon) (wide' : length ls ≡ max_horizon)
-    (o : MonitorOpening) (asked : OpeningAsked p (pair_of us ls) o) where
+module _ (p : AnyPair) (h : History) (us ls : List ℕ) where
+  abbrev state : Monitor
+  state = monitor_of h us ls false
+
   -- The closed figures that count, up to the horizon, are the closure.
-  fresh_is : horizon (curves_of p) ≤ max_horizon → view_of h ≡ fresh p → monitor_view_of (monitor_of h us ls false) ≡ fresh_monitor p
-  fresh_is short v =
+  fresh_is : length us ≡ max_horizon → length ls ≡ max_horizon → OpeningAsked p (pair_of us ls) (Ok tt)
+      → horizon (curves_of p) ≤ max_horizon → view_of h ≡ fresh p → monitor_view_of state ≡ fresh_monitor p
+  fresh_is wide wide' asked short v =
       let is : h.horizon ≡ horizon (curves_of p) = sym (horizon_seen h) ∙ ap (λ (w : View). horizon (curves_of w.pair)) v in
       let all : (xs : List ℕ) → length xs ≡ max_horizon → entries h.horizon xs ≡ take (horizon (curves_of p)) xs =
       λ xs l. entries-take h.horizon xs (omega arith) ∙ ap (λ n. take n xs) is in
       (λ i. monitor_view (v i) (closed_in (v i).pair (pair_of (all us wide i) (all ls wide' i))) false)
       ∙ ap (λ q. monitor_view (fresh p) q false) asked.closed
 
-  pub begun_is : Begun (opening p) p h → MonitorBegun (monitor_opening p) p (begun_as o h us ls)
-  begun_is b = rw (← asked.answer) (go o asked.answer)
-    where
-      go : (o : MonitorOpening) → monitor_opening_reply o ≡ monitor_opening p → MonitorBegun (monitor_opening_reply o) p (begun_as o h us ls)
-      go opened.Opened e =
-          let ys : AllYes (pair_questions p) = opened_yes p (sym e) in
-          fresh_is ys.0.1 (subst (λ r. Begun r p h) (sym (asking_yes p ys)) b)
-      go opened.UpperLength e = refl
-      go opened.LowerLength e = refl
-      go opened.FigureLimit e = refl
-      go opened.NoClosure e = refl
+  pub opened_state : length us ≡ max_horizon → length ls ≡ max_horizon → OpeningAsked p (pair_of us ls) (Ok tt)
+      → Begun (opening p) p h → MonitorBegun (monitor_opening p) p state
+  opened_state wide wide' asked b =
+      let ys : AllYes (pair_questions p) = opened_yes p (sym asked.answer) in
+      rw (← asked.answer) (fresh_is wide wide' asked ys.0.1 (subst (λ r. Begun r p h) (sym (asking_yes p ys)) b))
+
+  zero_is : h ≡ zero_history → pair_of us ls ≡ room → state ≡ zero_monitor
+  unfolding zero_monitor
+  zero_is z e = λ i. monitor_of (z i) (e i).upper (e i).lower false
+
+  pub refused_state : (e : MonitorRefusal) → OpeningAsked p (pair_of us ls) (Err e) → h ≡ zero_history
+      → MonitorBegun (monitor_opening p) p state
+  refused_state e asked z = rw (← asked.answer) (zero_is z asked.closed)

@@ -1,26 +1,31 @@
 // The windows that end at a tick: which is outside its figures, and how much each leaves.
 
-ghost use Rattle.std.specs.Prelude.{◌≡◌, ◌≤◌, length};
+ghost use Rattle.std.specs.Prelude.{◌≡◌, ◌+◌, ◌<◌, ◌≤◌, length, slice_index, Ok};
 ghost use Rattle.laws.specs.Tests.{Tells};
 ghost use Rattle.curves.specs.Pairs.{pair_of};
-ghost use Rattle.curves.specs.Unlimited.{with_mark};
 ghost use Rattle.curves.specs.Ticks.{then, Keeps};
 ghost use Rattle.curves.specs.Margins.{Tightest};
-ghost use Rattle.curves.specs.Questions.{result as answer};
+ghost use Rattle.bounds.specs.Answers.{curves_in};
+ghost use Rattle.history.specs.Answers.{view_in};
 ghost use Rattle.history.specs.Steps.{Slices, view_with};
-ghost use Rattle.monitor.specs.Monitoring.{judged, verdict_on};
-ghost use Rattle.monitor.specs.Answers.{verdict_reply};
-ghost use Rattle.monitor.specs.Steps.{margin_as, MeasuredOf, RuledAfter, FitsAfter, Fits, tighter_of, margin_with, window_limit};
+ghost use Rattle.monitor.specs.declared.Verdict.TheVariants.{Passed};
+ghost use Rattle.monitor.specs.Monitoring.{monitor_view, closed_in, judged, verdict_on};
+ghost use Rattle.monitor.specs.Answers.{ruling_of};
+ghost use Rattle.monitor.specs.Steps.{margin_as, margin_with, tighter_of, outside_with, window_limit, Fits};
+ghost use Rattle.monitor.specs.Steps.{FoundOf, unjudged_as, MeasuredOf, GivenOf, ClosedOf};
 
 use crate::Verdict;
+use bounds::Curves;
+use history::{BadState, View};
 
-// What is found of a tick. The verdict alone would tell whether it passes; but where the verdict's cases decide whether the tick is held,
-// the compiler copies the state for each of them.
+// The largest figure.
+const FIGURE_LIMIT: u32 = 16_776_960;
+
+// What is found of a tick.
 #[derive(Clone, Copy)]
 pub(crate) struct Finding {
-    pub(crate) verdict: Verdict,
+    pub(crate) verdict: Result<Verdict, BadState>,
     pub(crate) margin: Margin,
-    pub(crate) passes: bool,
 }
 
 // A margin, and the window that has it.
@@ -30,183 +35,230 @@ pub(crate) struct Margin {
     pub(crate) window: usize,
 }
 
-// Looks at figures after others, which found `earlier`. The first are those as given: while `earlier` has the margin of no window there
-// were none before them, and they give the verdict and the margin. A tick that passes by them is lost where it does not keep the next ones,
-// the closed figures, which have ceilings. That it passes is written anew, field by field: the processor waits for a finding that is copied
-// whole just after its parts were written.
-pub(crate) fn rule(
-    earlier: Finding,
+// Where no window is judged there is no margin: 0, of no window.
+pub(crate) fn unjudged(verdict: Result<Verdict, BadState>) -> Finding
+    ensures { result ≡ unjudged_as verdict }
+{
+    let margin = Margin {
+        value: 0,
+        window: 0,
+    };
+    Finding { verdict, margin }
+}
+
+// The verdict and the margin by the figures as given, and then, where there are ceilings, by the closed ones.
+pub(crate) fn examine(view: View, closed: Curves, failed: bool, count: u32) -> Finding
+    requires given { Slices view.curves.upper.now view.curves.lower.now view.ticks.now }
+    requires closed { Slices closed.upper.now closed.lower.now view.ticks.now }
+    ensures { FoundOf (monitor_view (view_in view.entry)
+        (closed_in (view_in view.entry).pair (pair_of closed.entry.upper.now closed.entry.lower.now)) failed)
+        count result }
+{
+    let View {
+        curves: Curves {
+            upper,
+            lower,
+            unlimited,
+        },
+        ticks,
+    } = view;
+    let given = by_given(upper, lower, unlimited, ticks, failed, count);
+    if unlimited {
+        return given;
+    }
+    by_closed(given, closed.upper, closed.lower, ticks, count)
+}
+
+// Question 12 of the figures as given, then the failed mark, and then the windows. The margin tells whether the tick keeps the figures:
+// only where it does not are these gone through again, for the shortest window outside. The lists are loose, and the function is not joined
+// with its caller: behind references in a struct the compiler copies the arrays of a state, and a tick of one window takes four times as
+// long.
+#[inline(never)]
+fn by_given(
     upper: &[u32],
     lower: &[u32],
     unlimited: bool,
     ticks: &[u32],
+    failed: bool,
     count: u32,
 ) -> Finding
+    requires { Slices upper.now lower.now ticks.now }
+    ensures { GivenOf (view_with upper.now lower.now unlimited ticks.now) failed count result }
+{
+    let curves = Curves {
+        upper,
+        lower,
+        unlimited,
+    };
+    if !curves.within(FIGURE_LIMIT) {
+        return unjudged(Err(BadState));
+    }
+    if failed {
+        return unjudged(Ok(Verdict::AlreadyFailed));
+    }
+    let view = View { curves, ticks };
+    let margin = find_tightest(view, count);
+    let verdict = if margin.value < 0 {
+        judge(view, count)
+    } else {
+        Verdict::Passed
+    };
+    Finding {
+        verdict: Ok(verdict),
+        margin,
+    }
+}
+
+// Question 12 of the closed figures, and then the windows by them: a tick that passes by the figures as given is lost where it does not
+// keep these. The lists are loose for the same reason.
+#[inline(never)]
+fn by_closed(given: Finding, upper: &[u32], lower: &[u32], ticks: &[u32], count: u32) -> Finding
     requires slices { Slices upper.now lower.now ticks.now }
-    requires fits_after { FitsAfter earlier ticks.now count }
-    ensures { RuledAfter earlier upper.now lower.now unlimited ticks.now count result }
+    requires fits { given.verdict ≡ Ok Passed → Fits ticks.now count }
+    ensures { ClosedOf given (pair_of upper.now lower.now) (then ticks.now count) result }
 {
-    if !earlier.passes {
-        return earlier;
+    let curves = Curves {
+        upper,
+        lower,
+        unlimited: false,
+    };
+    if !curves.within(FIGURE_LIMIT) {
+        return unjudged(Err(BadState));
     }
-    let margin = earlier.margin;
-    if margin.window == 0 {
-        return measure(upper, lower, unlimited, ticks, count);
-    }
-    if keeps(upper, lower, ticks, count) {
-        return Finding {
-            verdict: Verdict::Passed,
-            margin,
-            passes: true,
-        };
-    }
-    Finding {
-        verdict: Verdict::Lost,
-        margin,
-        passes: false,
+    match given.verdict {
+        Ok(Verdict::Passed) if !keeps(curves, ticks, count) => Finding {
+            verdict: Ok(Verdict::Lost),
+            ..given
+        },
+        _ => given,
     }
 }
 
-// The margin tells whether a tick keeps the figures: only where it does not are these gone through again, for the shortest window outside.
-fn measure(upper: &[u32], lower: &[u32], unlimited: bool, ticks: &[u32], count: u32) -> Finding
-    requires { Slices upper.now lower.now ticks.now }
-    ensures { MeasuredOf (view_with upper.now lower.now unlimited ticks.now) count result }
+// Window after window, the shortest first; `sum` has the new tick and the d before it, and the loop breaks with what is said of the first
+// that is outside. It is called where some window is, and then names one.
+fn judge(view: View, count: u32) -> Verdict
+    requires { Slices view.curves.upper.now view.curves.lower.now view.ticks.now }
+    ensures { ruling_of result ≡ judged (verdict_on (view_in view.entry) count) }
 {
-    let margin = find_tightest(upper, lower, unlimited, ticks, count);
-    if margin.value < 0 {
-        let verdict = judge(upper, lower, unlimited, ticks, count);
-        return Finding {
-            verdict,
-            margin,
-            passes: false,
-        };
-    }
-    Finding {
-        verdict: Verdict::Passed,
-        margin,
-        passes: true,
-    }
-}
-
-// Window after window, the shortest first; `sum` has the new tick and the d before it. Where the figures of a window cross it may be
-// outside both ways: 'too many' is looked at first, where there are ceilings. It is called where some window is outside, and then names one.
-fn judge(upper: &[u32], lower: &[u32], unlimited: bool, ticks: &[u32], count: u32) -> Verdict
-    requires { Slices upper.now lower.now ticks.now }
-    ensures { verdict_reply result
-        ≡ answer (judged (verdict_on (view_with upper.now lower.now unlimited ticks.now) count)) }
-{
+    let View { curves, ticks } = view;
     let held = ticks.len();
     let mut sum = count as u64;
     let mut d = 0;
-    let verdict = loop {
-        if margin_between(upper[d], lower[d], unlimited, sum) < 0 {
-            if !unlimited & ((upper[d] as u64) < sum) {
-                break Verdict::TooMany { window: d + 1 };
-            }
-            break Verdict::TooFew { window: d + 1 };
+    // Stays a `loop`: document 01 has the first window that is outside yielded by its `break`.
+    'windows: loop {
+        if let Some(verdict) = outside(curves, d, sum) {
+            break verdict;
         }
         if held <= d {
             break Verdict::Passed;
         }
         sum += ticks[held - 1 - d] as u64;
         d += 1;
-    };
-    verdict
+    }
+}
+
+// What is said of the window of d + 1 ticks, which have this sum, where it is outside its figures. Where these cross it may be outside both
+// ways: 'too many' is looked at first, where there are ceilings.
+fn outside(curves: Curves, d: usize, sum: u64) -> Option<Verdict>
+    requires { (d < length curves.upper.now) × (length curves.lower.now ≡ length curves.upper.now) }
+    ensures { result ≡ outside_with curves.entry.unlimited (slice_index curves.entry.upper.now d)
+        (slice_index curves.entry.lower.now d) sum (d + 1) }
+{
+    if !curves.unlimited & ((curves.upper[d] as u64) < sum) {
+        return Some(Verdict::TooMany { window: d + 1 });
+    }
+    if sum < curves.lower[d] as u64 {
+        return Some(Verdict::TooFew { window: d + 1 });
+    }
+    None
 }
 
 // The smallest margin over the same windows, two of them a turn. A later one takes its place only where it is smaller, so the window is the
 // shortest.
-fn find_tightest(upper: &[u32], lower: &[u32], unlimited: bool, ticks: &[u32], count: u32) -> Margin
-    requires { Slices upper.now lower.now ticks.now }
-    ensures { Tightest (with_mark upper.now lower.now unlimited) (then ticks.now count)
-        (margin_as result) }
+fn find_tightest(view: View, count: u32) -> Margin
+    requires { Slices view.curves.upper.now view.curves.lower.now view.ticks.now }
+    ensures { Tightest (view_in view.entry).pair (then view.entry.ticks.now count) (margin_as result) }
 {
+    let View { curves, ticks } = view;
     let held = ticks.len();
     let mut sum = count as u64;
-    let value = margin_between(upper[0], lower[0], unlimited, sum);
-    let mut best = Margin { value, window: 1 };
-    let mut d = 0;
-    while d + 1 < held {
-        let e = d + 1;
+    let mut best = margin_at(curves, 0, sum);
+    for turn in 0..held / 2 {
+        let d = 2 * turn;
         let one = sum + ticks[held - 1 - d] as u64;
-        sum = one + ticks[held - 1 - e] as u64;
-        best = tighter(best, upper[e], lower[e], unlimited, one, e + 1);
-        best = tighter(best, upper[e + 1], lower[e + 1], unlimited, sum, e + 2);
-        d = e + 1;
+        sum = one + ticks[held - 2 - d] as u64;
+        best = tighter(best, margin_at(curves, d + 1, one));
+        best = tighter(best, margin_at(curves, d + 2, sum));
     }
-    if held <= d {
+    if held % 2 == 0 {
         return best;
     }
-    let all = sum + ticks[held - 1 - d] as u64;
-    tighter(best, upper[d + 1], lower[d + 1], unlimited, all, d + 2)
+    tighter(best, margin_at(curves, held, sum + ticks[0] as u64))
 }
 
 // The smaller of a margin and that of another window; the first where they are equal.
-fn tighter(
-    best: Margin,
-    ceiling: u32,
-    least: u32,
-    unlimited: bool,
-    sum: u64,
-    window: usize,
-) -> Margin
-    requires { sum ≤ window_limit }
-    ensures { result ≡ tighter_of best (margin_with unlimited ceiling least sum) window }
+fn tighter(best: Margin, other: Margin) -> Margin
+    ensures { result ≡ tighter_of best other }
 {
-    let value = margin_between(ceiling, least, unlimited, sum);
-    if value < best.value {
-        return Margin { value, window };
+    if other.value < best.value {
+        other
+    } else {
+        best
     }
-    best
 }
 
-// The margin of one window: the smaller of ceiling minus sum and sum minus least, and without ceilings the latter. It is negative where
-// the sum is outside.
-fn margin_between(ceiling: u32, least: u32, unlimited: bool, sum: u64) -> i64
-    requires { sum ≤ window_limit }
-    ensures { result ≡ margin_with unlimited ceiling least sum }
+// The margin of the window of d + 1 ticks, which have this sum: the smaller of ceiling minus sum and sum minus least, and without ceilings
+// the latter. It is negative where the sum is outside.
+fn margin_at(curves: Curves, d: usize, sum: u64) -> Margin
+    requires place { (d < length curves.upper.now) × (length curves.lower.now ≡ length curves.upper.now) }
+    requires small { sum ≤ window_limit }
+    ensures { result ≡ record {
+      value = margin_with curves.entry.unlimited (slice_index curves.entry.upper.now d)
+          (slice_index curves.entry.lower.now d) sum;
+      window = d + 1;
+    } }
 {
     let total = sum as i64;
-    let above = ceiling as i64 - total;
-    let below = total - least as i64;
-    if !unlimited & (above <= below) {
+    let above = curves.upper[d] as i64 - total;
+    let below = total - curves.lower[d] as i64;
+    let value = if !curves.unlimited & (above <= below) {
         above
     } else {
         below
+    };
+    Margin {
+        value,
+        window: d + 1,
     }
 }
 
 // Whether every window keeps its figures, two of them a turn. The sums are known to fit 32 bits.
-fn keeps(upper: &[u32], lower: &[u32], ticks: &[u32], count: u32) -> bool
-    requires slices { Slices upper.now lower.now ticks.now }
+fn keeps(curves: Curves, ticks: &[u32], count: u32) -> bool
+    requires slices { Slices curves.upper.now curves.lower.now ticks.now }
     requires fits { Fits ticks.now count }
-    ensures { Tells result (Keeps (pair_of upper.now lower.now) (then ticks.now count)) }
+    ensures { Tells result
+        (Keeps (pair_of curves.entry.upper.now curves.entry.lower.now) (then ticks.now count)) }
 {
-    if !inside(lower[0], count, upper[0]) {
+    if !inside(curves, 0, count) {
         return false;
     }
     let held = ticks.len();
     let mut sum = count;
-    let mut d = 0;
-    while d + 1 < held {
-        let e = d + 1;
+    for turn in 0..held / 2 {
+        let d = 2 * turn;
         let one = sum + ticks[held - 1 - d];
-        sum = one + ticks[held - 1 - e];
-        if !(inside(lower[e], one, upper[e]) & inside(lower[e + 1], sum, upper[e + 1])) {
+        sum = one + ticks[held - 2 - d];
+        if !(inside(curves, d + 1, one) & inside(curves, d + 2, sum)) {
             return false;
         }
-        d = e + 1;
     }
-    if held <= d {
-        return true;
-    }
-    let all = sum + ticks[held - 1 - d];
-    inside(lower[d + 1], all, upper[d + 1])
+    held % 2 == 0 || inside(curves, held, sum + ticks[0])
 }
 
-// Whether a sum is from its least to its ceiling.
-fn inside(least: u32, sum: u32, ceiling: u32) -> bool
-    ensures { Tells result ((least ≤ sum) × (sum ≤ ceiling)) }
+// Whether the sum of the window of d + 1 ticks is from its least to its ceiling.
+fn inside(curves: Curves, d: usize, sum: u32) -> bool
+    requires { (d < length curves.upper.now) × (length curves.lower.now ≡ length curves.upper.now) }
+    ensures { Tells result ((slice_index curves.entry.lower.now d ≤ sum) × (sum ≤ slice_index curves.entry.upper.now d)) }
 {
-    (least <= sum) & (sum <= ceiling)
+    (curves.lower[d] <= sum) & (sum <= curves.upper[d])
 }

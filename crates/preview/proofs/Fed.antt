@@ -2,11 +2,14 @@
 use Rattle.laws.proofs.Base.{ℕ, zero, suc, ◌+◌, ◌<◌, ◌≡◌, refl, sym, ap, ◌∙◌, false, cond, List, [], ◌∷◌}
 use Rattle.laws.proofs.Base.{map, arith, inl, length, get_or, take, drop}
 use lib.ListN.{length-map, get_or-map}
+use Rattle.std.specs.Prelude.{Result, Ok, Err, IsErr, MatchResult}
 use Rattle.curves.specs.Ticks.{passed, too_many, too_few}
 use Rattle.curves.specs.Questions.{Reply, result, refusal}
 use Rattle.curves.proofs.Asked.{said_yes, said_no}
 use Rattle.monitor.specs.Monitoring.{MonitorView, monitor_view_of, Ruling, judged, lost, already_failed}
 use Rattle.monitor.specs.Calls.{after_tick, after_ticks, rulings}
+use Rattle.history.specs.declared.BadState.{BadState}
+use Rattle.scripts.specs.Answers.{counted}
 use Rattle.scripts.specs.Codes.{minus, ruling_code}
 use Rattle.scripts.specs.Words.{monitor_from, LegalMonitorWords}
 use Rattle.scripts.proofs.Pieces.{rulings-length}
@@ -112,6 +115,19 @@ codes_drop w (x ∷ xs) (suc n) k =
 pub preview_bad : (ws xs : List ℕ) (found : ℕ) → ¬ LegalMonitorWords ws → preview_of ws xs found ≡ previewed (minus 12) found
 unfolding preview_of
 preview_bad ws xs found n = said_no _ _ _ 12 (inl (refl, n))
+
+twelve : (r : Result ℕ BadState) → IsErr r → counted r ≡ minus 12
+twelve (Ok n) e = cc
+twelve (Err b) e = refl
+
+-- A refusal is one of words that are no state.
+pub refused_legal : {L : Type 0} (r : Result ℕ BadState) → IsErr r → ¬ L → MatchResult r (λ _. L) (λ _. ¬ L)
+refused_legal (Ok n) e h = absurd (cc)
+refused_legal (Err x) e h = h
+
+pub refused_as : (ws xs : List ℕ) (found v : ℕ) (r : Result ℕ BadState) → IsErr r → v ≡ found → ¬ LegalMonitorWords ws
+    → previewed (counted r) v ≡ preview_of ws xs found
+refused_as ws xs found v r e same n = (λ i. previewed (twelve r e i) (same i)) ∙ sym (preview_bad ws xs found n)
 
 pub preview_legal : (ws xs : List ℕ) (found : ℕ) → LegalMonitorWords ws → let rs = rulings (monitor_view_of (monitor_from ws)) xs in
     preview_of ws xs found ≡ previewed (leading_passes rs) (ruling_code (answer_behind rs))

@@ -43,7 +43,7 @@ over_at cs vs k h l =
 
 -- What a run is answered: 12 with a minus sign, or what has run.
 pub refused : (ws xs vs left after : List ℕ) (r : ℕ) → RanAs ws xs vs left after r → ¬ LegalMonitorWords ws → r ≡ minus 12
-refused ws xs vs left after r e n = ap (λ (a : Judged). a.answer) (e.2 ∙ judged_bad ws (take (length vs) xs) vs e.0 n)
+refused ws xs vs left after r e n = ap (λ (a : Judged). a.answer) (e.ran ∙ judged_bad ws (take (length vs) xs) vs e.lent n)
 
 module _ (ws xs vs left after : List ℕ) (r : ℕ) (e : RanAs ws xs vs left after r) where
   abbrev w : MonitorView
@@ -63,9 +63,9 @@ module _ (ws xs vs left after : List ℕ) (r : ℕ) (e : RanAs ws xs vs left aft
             ∙ codes_take w xs (length vs) k (omega (arith, number, length-take (length vs) xs));
       }
     where
-      both : judged r left after e.1 ≡ judged (length ys) (monitor_left ws (after_ticks w ys)) (over (codes w ys) vs)
-          (over (margin_values (margins w ys)) e.0)
-      both = e.2 ∙ judged_legal ws ys vs e.0 l
+      both : judged r left after e.margins ≡ judged (length ys) (monitor_left ws (after_ticks w ys)) (over (codes w ys) vs)
+          (over (margin_values (margins w ys)) e.lent)
+      both = e.ran ∙ judged_legal ws ys vs e.lent l
 
       number : r ≡ length ys
       number = ap (λ (a : Judged). a.answer) both

@@ -3,9 +3,13 @@
 
 #![tactic(auto)]
 
-ghost use Rattle.std.specs.Prelude.{◌≡◌, replicate};
+ghost use Rattle.std.specs.Prelude.{◌≡◌, ◌≤◌, min, length, IfOk, MatchResult};
+ghost use Rattle.scripts.specs.Words.{LegalMonitorWords};
+ghost use Rattle.scripts.specs.Answers.{counted};
 ghost use Rattle.preview.specs.Preview.{previewed, preview_of};
-ghost use Rattle.preview.specs.Steps.{RanAs, LeadingZeros};
+ghost use Rattle.preview.specs.Steps.{RanAs, FirstNonzero};
+
+use history::BadState;
 
 // How many words a monitor has.
 const MONITOR_WORDS: usize = 1_284;
@@ -14,88 +18,59 @@ const MONITOR_WORDS: usize = 1_284;
 // than a tenth more of time than one run of it all would (DECISIONS 126), and the places take 4 KiB of the stack.
 const PIECE: usize = 1_024;
 
-// The verdict on a tick that passes.
+// The verdict on a tick that passes, as an entry of C's list.
 const PASSED: u32 = 0;
-
-// A refusal with 12, as a number of 64 bits with a minus sign.
-const BAD_STATE: u64 = 18_446_744_073_709_551_604;
 
 // How many of the counts would pass on the monitor of `state`, from the first on: the place of the first that would be rejected, or the
 // number of all. `verdict` gets what the monitor would say there, or that all pass. Words that are no monitor are refused with 12, whatever
 // the list, and then the verdict stays as it is.
-pub fn preview(state: &[u32], counts: &[u32], verdict: &mut u32) -> u64
-    ensures { previewed result verdict.new
+pub fn preview(state: &[u32], counts: &[u32], verdict: &mut u32) -> Result<usize, BadState>
+    ensures legal { MatchResult result (λ _. LegalMonitorWords state.now) (λ _. ¬ LegalMonitorWords state.now) }
+    ensures told { previewed (counted result) verdict.new
         ≡ preview_of state.now counts.now verdict.old }
+    ensures few { IfOk result (λ n. n ≤ length counts.now) }
 {
-    if state.len() != MONITOR_WORDS {
-        return BAD_STATE;
-    }
-    let mut words = no_words();
-    lists::copy(state, &mut words);
+    let mut words: [u32; MONITOR_WORDS] = *state.as_array().ok_or(BadState)?;
     try_counts(&mut words, counts, verdict)
 }
 
-// A monitor's words, all 0.
-fn no_words() -> [u32; MONITOR_WORDS]
-    ensures { result ≡ replicate 1_284 0 }
-{
-    [0u32; MONITOR_WORDS]
-}
-
-// The same on words that may be changed. Each piece asks question 12, and of an empty list there is one piece too. Only the first can be
+// The same on words that may be changed. Each piece asks question 12; an empty list has none, and it is asked alone. Only the first can be
 // refused, since what it leaves is a state.
-fn try_counts(words: &mut [u32], counts: &[u32], verdict: &mut u32) -> u64
-    ensures { previewed result verdict.new
+fn try_counts(words: &mut [u32], counts: &[u32], verdict: &mut u32) -> Result<usize, BadState>
+    ensures legal { MatchResult result (λ _. LegalMonitorWords words.old) (λ _. ¬ LegalMonitorWords words.old) }
+    ensures told { previewed (counted result) verdict.new
         ≡ preview_of words.old counts.now verdict.old }
+    ensures few { IfOk result (λ n. n ≤ length counts.now) }
 {
-    let mut verdicts = no_verdicts();
-    let mut i = 0;
-    loop {
-        let ran = run_piece(words, &counts[i..], &mut verdicts);
-        if ran == BAD_STATE {
-            return ran;
-        }
-        let n = ran as usize;
-        let passing = leading_passes(&verdicts[..n]);
-        if passing < n {
-            *verdict = verdicts[passing];
-            return (i + passing) as u64;
-        }
-        i += n;
-        if counts.len() <= i {
-            *verdict = PASSED;
-            return i as u64;
-        }
+    let mut verdicts = [PASSED; PIECE];
+    if counts.is_empty() {
+        run_piece(words, counts, &mut verdicts)?;
     }
-}
-
-// The verdicts of a piece, all 0.
-fn no_verdicts() -> [u32; PIECE]
-    ensures { result ≡ replicate 1_024 0 }
-{
-    [0u32; PIECE]
+    let mut passed = 0;
+    for piece in counts.chunks(PIECE) {
+        let n = run_piece(words, piece, &mut verdicts)?;
+        if let Some(k) = first_rejected(&verdicts[..n]) {
+            *verdict = verdicts[k];
+            return Ok(passed + k);
+        }
+        passed += n;
+    }
+    *verdict = PASSED;
+    Ok(passed)
 }
 
 // Runs as many of the counts as there are places for verdicts. No margin is sought where no place is lent for one.
-fn run_piece(words: &mut [u32], counts: &[u32], verdicts: &mut [u32]) -> u64
-    ensures { RanAs words.old counts.now verdicts.old words.new
-        verdicts.new result }
+fn run_piece(words: &mut [u32], counts: &[u32], verdicts: &mut [u32]) -> Result<usize, BadState>
+    ensures left { RanAs words.old counts.now verdicts.old words.new
+        verdicts.new (counted result) }
+    ensures ran { IfOk result (λ n. n ≡ min (length counts.now) (length verdicts.old)) }
 {
-    let mut margins = [0i64; 1];
-    scripts::judge(words, counts, verdicts, &mut margins[..0])
+    scripts::judge(words, counts, verdicts, &mut [])
 }
 
-// How many verdicts are passes, from the first on.
-fn leading_passes(verdicts: &[u32]) -> usize
-    ensures { LeadingZeros verdicts.now result }
+// The place of the first verdict that is no pass.
+fn first_rejected(verdicts: &[u32]) -> Option<usize>
+    ensures { FirstNonzero verdicts.now result }
 {
-    let mut i = 0;
-    while i < verdicts.len() {
-        let verdict = verdicts[i];
-        if verdict != PASSED {
-            return i;
-        }
-        i += 1;
-    }
-    i
+    verdicts.iter().position(|verdict| *verdict != PASSED)
 }

@@ -1,84 +1,54 @@
 -- Laws over plain bytes: the fields of a record as the code cuts them, and what they were found to be.
 -- Assumes nothing.
-use Rattle.laws.proofs.Base.{ℕ, ◌+◌, ◌-◌, ◌≤◌, ◌<◌, ◌≡◌, refl, sym, ap, subst, true, false, cond, List, [], ◌∷◌, ◌⊎◌, inl, inr}
-use Rattle.laws.proofs.Base.{arith, eqb, length, get_or, take, drop}
-use Rattle.laws.specs.Tests.{Each}
+use Rattle.laws.proofs.Base.{ℕ, ◌+◌, ◌-◌, ◌≤◌, ◌<◌, ◌≡◌, refl, sym, ap, subst, true, false, cond, List, [], ◌∷◌, inl, inr}
+use Rattle.laws.proofs.Base.{suc, ◌∙◌, add-one, arith, eqb, length, get_or, take, drop, length-drop, drop-cons, get_or-drop, add-zero}
+use lib.Seq.{drop-drop}
+use Rattle.std.proofs.Common.{◌≢◌, Option, Some, None, Result, Ok, Err}
+use Rattle.std.specs.Option.{MatchOption, is_some}
+use denote.Ref.{Bor}
 use Rattle.curves.specs.Questions.{refusal}
 use Rattle.csv_text.specs.Text.{Bytes, comma, on_first, fields}
-use Rattle.csv_text.specs.Numbers.{Digit, Numeral, value_after, value}
 use Rattle.csv_text.proofs.Splitting.{rest_is, HeadField, head_field_lem}
-use Rattle.csv_text.specs.Records.{first_record, WellFormed, InRange}
+use Rattle.csv_text.specs.Records.{first_record, field, WellFormed}
 use Rattle.records.specs.Recording.{recording}
 use Rattle.records.specs.Answers.{record_reply}
-use Rattle.records.specs.Steps.{first_field, CommaAt, Numbered, RangeChecked, Numerals, constraint_in, Figured}
-use Rattle.records.specs.declared.Parsed.TheVariants.{Value}
+use Rattle.records.specs.Steps.{SplitOff, Numerals, Figured}
 use Rattle.records.specs.declared.Record.{Record}
-use Rattle.records.specs.declared.Record.TheVariants.{Spells, Malformed, OutOfRange}
+use Rattle.records.specs.declared.RecordRefusal.{RecordRefusal}
+use Rattle.records.specs.declared.RecordRefusal.TheVariants.{Malformed, OutOfRange}
 use Rattle.records.proofs.Said.{refused_iff, given_is}
 
--- ---- a field
--- A field that begins with 0 is `0`, or no numeral; nor is one with a byte that is no digit.
-pub zero_alone : (f : Bytes) → length f ≡ 1 → get_or f 0 0 ≡ 48 → Numeral f × (0 ≡ value f)
-unfolding value_after
-zero_alone [] n z = absurd (omega arith)
-zero_alone (b ∷ []) n z =
-    (record { some = omega arith; few = omega arith; digits = ((omega arith, omega arith), tt); no_leading_zero = inl refl }, omega arith)
-zero_alone (b ∷ c ∷ f) n z = absurd (omega arith)
-
-pub leading_zero : (f : Bytes) → ¬ (length f ≡ 1) → get_or f 0 0 ≡ 48 → ¬ Numeral f
-leading_zero f n z k = elim k.no_leading_zero [ inl e ↦ n e | inr m ↦ m z ]
-
-pub no_numeral : (f : Bytes) → ¬ Each Digit f → ¬ Numeral f
-no_numeral f n k = n k.digits
-
--- Three fields, by what their numbers were found to be: the last is empty, or a number too.
-module _ (f g : Bytes) (w l n : ℕ) (x : Numbered f (Value w)) (y : Numbered g (Value l)) where
-  pub figured_short : (h : Bytes) → length h < 1 → (v : Record) → RangeChecked w l false 0 n v → Figured f g h n v
-  figured_short [] e v q = go v (rw (x.1, y.1) at q)
-    where
-      go : (v : Record) → RangeChecked (value f) (value g) false 0 n v → Figured f g [] n v
-      go (Spells w' l' k' m' n') k =
-          let range : InRange (constraint_in f g []) =
-          record { some = k.0.some; window = k.0.window; least = k.0.least; most = tt } in
-          ((x.0, y.0, inl refl), range, rw (k.1, k.2, k.3, k.4, k.5))
-      go Malformed k = absurd k
-      go OutOfRange k =
-          ((x.0, y.0, inl refl), λ i. k (record { some = i.some; window = i.window; least = i.least; most = omega arith }))
-  figured_short (b ∷ h) e v q = absurd (omega arith)
-
-  pub figured : (h : Bytes) (m : ℕ) → 1 ≤ length h → Numbered h (Value m) → (v : Record) → RangeChecked w l true m n v → Figured f g h n v
-  figured [] m e z v q = absurd (omega arith)
-  figured (b ∷ h) m e z v q = go v (rw (x.1, y.1, z.1) at q)
-    where
-      go : (v : Record) → RangeChecked (value f) (value g) true (value (b ∷ h)) n v → Figured f g (b ∷ h) n v
-      go (Spells w' l' k' m' n') k = ((x.0, y.0, inr z.0), k.0, rw (k.1, k.2, k.3, k.4, k.5))
-      go Malformed k = absurd k
-      go OutOfRange k = ((x.0, y.0, inr z.0), k)
-
--- A field that is neither empty nor a numeral is no most.
-pub no_most_lem : (h : Bytes) → 1 ≤ length h → ¬ Numeral h → ¬ ((h ≡ []) ⊎ Numeral h)
-no_most_lem h l n k = elim k [ inl e ↦ omega (arith, ap length e) | inr e ↦ n e ]
-
 -- ---- the fields of the record that a text s begins with, of which f is the first
--- What follows it and a comma, as the code cuts it.
-abbrev pub after : Bytes → Bytes → Bytes
-after s f = take (length s - (length f + 1)) (drop (length f + 1) s)
+-- A comma stands behind n bytes of a text.
+abbrev CommaIn : Bytes → ℕ → Type 0
+CommaIn s n = (n < length s) × (get_or s n 0 ≡ comma)
 
-module _ (s f : Bytes) (first : f ≡ first_field (first_record s)) where
-  head : HeadField s (first_record s) f
-  head = subst (HeadField s (first_record s)) (sym first) (head_field_lem s)
+comma_at : (s : Bytes) (n : ℕ) → CommaIn s n → drop n s ≡ comma ∷ drop (suc n) s
+comma_at s n k = drop-cons s n 0 k.0 ∙ ap (λ b. b ∷ drop (suc n) s) k.1
 
-  pub fields_more : CommaAt s (length f) → fields (first_record s) ≡ f ∷ fields (first_record (after s f))
-  fields_more k = rw (rest_is s (length f + 1)) (head.followed k).parts
+comma_in : (s : Bytes) (n : ℕ) (rest : Bytes) → drop n s ≡ comma ∷ rest → CommaIn s n
+comma_in s n rest e =
+    (omega (arith, length-drop n s, ap length e), sym (get_or-drop n s 0 0 ∙ rw add-zero) ∙ ap (λ l. get_or l 0 0) e)
 
-  pub bytes_more : CommaAt s (length f) → length (first_record s) ≡ length f + 1 + length (first_record (after s f))
-  bytes_more k = rw (rest_is s (length f + 1)) (head.followed k).whole
+-- What is split off it, by what is found behind it, as the code cuts that.
+pub split_is : (s f : Bytes) → f ≡ field (first_record s) 0 → length f ≤ length s → (r : Option (Bor Bytes))
+    → MatchOption r ((rest : Bytes) → take (length s - length f) (drop (length f) s) ≢ comma ∷ rest)
+    (λ x. take (length s - length f) (drop (length f) s) ≡ comma ∷ x.now)
+    → SplitOff s f r
+split_is s f first l r found = go r (rw (rest_is s (length f)) at found)
+  where
+    head : HeadField s (first_record s) f
+    head = subst (HeadField s (first_record s)) (sym first) (head_field_lem s)
 
-  pub fields_one : ¬ CommaAt s (length f) → fields (first_record s) ≡ f ∷ []
-  fields_one n = (head.ended n).alone
-
-  pub bytes_one : ¬ CommaAt s (length f) → length (first_record s) ≡ length f
-  bytes_one n = (head.ended n).same
+    go : (r : Option (Bor Bytes))
+        → MatchOption r ((rest : Bytes) → drop (length f) s ≢ comma ∷ rest) (λ x. drop (length f) s ≡ comma ∷ x.now) → SplitOff s f r
+    go (Some x) h =
+        let k : CommaIn s (length f) = comma_in s (length f) x.now h in
+        let e : x.now ≡ drop (length f + 1) s = sym (ap (drop 1) h) ∙ drop-drop 1 (length f) s in
+        rw e ((head.followed k).parts, (head.followed k).whole, omega (arith, length-drop (length f + 1) s, k.0))
+    go None h =
+        let o = head.ended (λ k. h (drop (length f + 1) s) (rw (add-one (length f)) (comma_at s (length f) k))) in
+        (o.alone, o.same, l)
 
 fields_some : (r : Bytes) → 1 ≤ length (fields r)
 unfolding fields
@@ -93,33 +63,54 @@ fields_some (b ∷ r) =
     first_some [] = omega arith
     first_some (x ∷ rs) = omega arith
 
--- A record that has not the form is refused with 7, as is one of one field, of two, or of more than three.
+-- ---- the ends of reading a record
+-- One that has not the form is refused with 7, as is one of one field, of two, or of more than three.
 malformed : (r : Bytes) → ¬ WellFormed r → refusal 7 ≡ recording r
 malformed r n = sym ((refused_iff r 7).1 (inl (refl, n)))
 
-module _ (r f : Bytes) where
-  pub one_field : fields r ≡ f ∷ [] → refusal 7 ≡ recording r
-  one_field e = malformed r (λ w. omega (arith, w.three, ap length e))
+pub one_field : (s f : Bytes) (o : Option (Bor Bytes)) → SplitOff s f o → o ≡ None → refusal 7 ≡ recording (first_record s)
+one_field s f o split last =
+    let alone : SplitOff s f None = subst (SplitOff s f) last split in
+    malformed (first_record s) (λ w. omega (arith, w.three, ap length alone.0))
 
-  module _ (a g : Bytes) (e : fields r ≡ f ∷ fields a) where
-    pub two_fields : fields a ≡ g ∷ [] → refusal 7 ≡ recording r
-    two_fields k = malformed r (λ w. omega (arith, w.three, ap length e, ap length k))
+module _ (s f : Bytes) (o : Option (Bor Bytes)) (x : Bor Bytes) (split₀ : SplitOff s f o) (more₀ : o ≡ Some x) where
+  first : SplitOff s f (Some x)
+  first = subst (SplitOff s f) more₀ split₀
 
-    module _ (b h : Bytes) (k : fields a ≡ g ∷ fields b) where
-      pub more_fields : (s : Bytes) → fields b ≡ h ∷ fields s → refusal 7 ≡ recording r
-      more_fields s l = malformed r (λ w. omega (arith, w.three, ap length e, ap length k, ap length l, fields_some s))
+  pub two_fields : (g : Bytes) (p : Option (Bor Bytes)) → SplitOff x.now g p → p ≡ None → refusal 7 ≡ recording (first_record s)
+  two_fields g p split last =
+      let alone : SplitOff x.now g None = subst (SplitOff x.now g) last split in
+      malformed (first_record s) (λ w. omega (arith, w.three, ap length first.0, ap length alone.0))
 
-      -- There are three: the record is what they were found to be.
-      pub three_fields : (n : ℕ) → fields b ≡ h ∷ [] → n ≡ length r → (v : Record) → Figured f g h n v → record_reply v ≡ recording r
-      three_fields n l bytes v found = go v (subst (λ (j : ℕ). Figured f g h j v) bytes found)
-        where
-          all : fields r ≡ f ∷ g ∷ h ∷ []
-          all = cc
+  module _ (g : Bytes) (p : Option (Bor Bytes)) (y : Bor Bytes) (split₁ : SplitOff x.now g p) (more₁ : p ≡ Some y) (h : Bytes) where
+    second : SplitOff x.now g (Some y)
+    second = subst (SplitOff x.now g) more₁ split₁
 
-          form : Numerals f g h → WellFormed r
-          form n = record { three = ap length all; window = rw all n.0; least = rw all n.1; most = rw all n.2 }
+    pub more_fields : (q : Option (Bor Bytes)) → SplitOff y.now h q → true ≡ is_some q → refusal 7 ≡ recording (first_record s)
+    more_fields None split more = absurd (cc)
+    more_fields (Some z) split more =
+        malformed (first_record s)
+        (λ w. omega (arith, w.three, ap length first.0, ap length second.0, ap length split.0, fields_some (first_record z.now)))
 
-          go : (v : Record) → Figured f g h (length r) v → record_reply v ≡ recording r
-          go (Spells w x k m n) (y, i, q) = rw (given_is r (form y, (rw all i, tt)), all, q)
-          go Malformed n = malformed r (λ w. n (rw all at w.window, rw all at w.least, rw all at w.most))
-          go OutOfRange (y, q) = sym ((refused_iff r 8).1 (inr (form y, inl (refl, λ i. q (rw all at i)))))
+    -- There are three: the record is what they were found to be.
+    pub three_fields : (q : Option (Bor Bytes)) → SplitOff y.now h q → false ≡ is_some q
+        → (v : Result Record RecordRefusal) → Figured f g h (length s - length y.now + length h) v → record_reply v ≡ recording (first_record s)
+    three_fields (Some z) split last v found = absurd (cc)
+    three_fields None split last v found = go v (subst (λ (n : ℕ). Figured f g h n v) bytes found)
+      where
+        r : Bytes
+        r = first_record s
+
+        bytes : length s - length y.now + length h ≡ length r
+        bytes = omega (arith, first, second, split)
+
+        all : fields r ≡ f ∷ g ∷ h ∷ []
+        all = cc (first.0, second.0)
+
+        form : Numerals f g h → WellFormed r
+        form n = record { three = ap length all; window = rw all n.0; least = rw all n.1; most = rw all n.2 }
+
+        go : (v : Result Record RecordRefusal) → Figured f g h (length r) v → record_reply v ≡ recording r
+        go (Ok v) (y, i, q) = rw (given_is r (form y, (rw all i, tt)), all, q)
+        go (Err Malformed) n = malformed r (λ w. n (rw all at w.window, rw all at w.least, rw all at w.most))
+        go (Err OutOfRange) (y, q) = sym ((refused_iff r 8).1 (inr (form y, inl (refl, λ i. q (rw all at i)))))

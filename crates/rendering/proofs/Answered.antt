@@ -1,27 +1,32 @@
--- What `render` has to show at each of its ends, over plain values. Assumes nothing.
-use Rattle.laws.proofs.Base.{ℕ, ◌≤◌, ◌≡◌, sym, ap, ◌∙◌, [], zero-add, length, sets}
+-- What a text has become once more is written behind it, over plain values. Assumes nothing.
+use Rattle.std.specs.Prelude.{Ok}
+use Rattle.laws.proofs.Base.{◌+◌, ◌≤◌, ◌≡◌, sym, ap, ◌∙◌, ◌++◌, zero-add, arith, length, replicate, length-append}
 use Rattle.laws.specs.Writing.{Wrote}
-use Rattle.laws.proofs.Writing.{sets_copies}
-use Rattle.curves.specs.Unlimited.{AnyPair}
-use Rattle.curves.specs.Questions.{FirstNo}
-use Rattle.bounds.specs.Bounds.{pair_questions}
+use Rattle.laws.proofs.Writing.{wrote_more, sets_copies}
 use Rattle.csv_text.specs.Text.{Bytes}
-use Rattle.rendering.specs.declared.Rendering.{Rendering}
-use Rattle.rendering.specs.declared.Rendered.{Rendered}
-use Rattle.rendering.specs.Rendering.{RenderingAnswer, longest, padded_text, written, rendering}
-use Rattle.rendering.specs.Answers.{rendering_number, rendering_answer}
-use Rattle.rendering.proofs.Said.{refused_is}
+use Rattle.rendering.specs.declared.write.Text.{Text}
+use Rattle.rendering.specs.Rendering.{RenderingAnswer, longest, written}
+use Rattle.rendering.specs.Answers.{rendering_answer}
 
-pub IsRefused-as
-    : (p : AnyPair) (r : Rendered) (a : Rendering) → (r.answer ≡ a) × (r.length ≡ 0) × (r.bytes ≡ padded_text [])
-    → FirstNo (pair_questions p) (rendering_number a) → rendering_answer r ≡ rendering p
-IsRefused-as p r a s f =
-    (λ i. record { number = rendering_number (s.0 i); length = s.1 i; bytes = s.2 i }) ∙ sym (refused_is p (rendering_number a) f)
+-- A text of as many bytes is what was written into zeros, and the other way round.
+module _ (t : Bytes) (x : Text) (h : length t ≤ longest) where
+  wrote_from : rendering_answer (Ok x) ≡ written t → Wrote (replicate longest 0) 0 t x.bytes x.length
+  wrote_from e =
+      record {
+        entries = ap (λ (a : RenderingAnswer). a.bytes) e ∙ sym (sets_copies 0 longest t h);
+        place = ap (λ (a : RenderingAnswer). a.length) e ∙ sym (zero-add (length t));
+      }
 
--- A text that fits is written into an array of zeros.
-pub written_as
-    : (t found left : Bytes) (n : ℕ) → length t ≤ longest → found ≡ padded_text [] → Wrote found 0 t left n
-    → ◌≡◌ {A = RenderingAnswer} (record { number = 0; length = n; bytes = left }) (written t)
-written_as t found left n h e w =
-    let whole = w.entries ∙ ap (λ l. sets l 0 t) e ∙ sets_copies 0 longest t h in
-    λ i. record { number = 0; length = (w.place ∙ zero-add (length t)) i; bytes = whole i }
+  written_from : Wrote (replicate longest 0) 0 t x.bytes x.length → rendering_answer (Ok x) ≡ written t
+  written_from w =
+      λ i. record {
+        number = 0;
+        length = (w.place ∙ zero-add (length t)) i;
+        bytes = (w.entries ∙ sets_copies 0 longest t h) i;
+      }
+
+pub more_written
+    : (s t : Bytes) (x y : Text) → length s + length t ≤ longest → rendering_answer (Ok x) ≡ written s
+    → Wrote x.bytes x.length t y.bytes y.length → rendering_answer (Ok y) ≡ written (s ++ t)
+more_written s t x y h e w =
+    written_from (s ++ t) y (omega (arith, length-append s t)) (wrote_more (wrote_from s x (omega arith) e) w)

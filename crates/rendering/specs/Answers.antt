@@ -1,16 +1,11 @@
--- Document 01's number for each case of `Rendering`.
-use Rattle.std.specs.Prelude.{ℕ}
-use Rattle.rendering.specs.declared.Rendering.{Rendering}
-use Rattle.rendering.specs.declared.Rendering.TheVariants.{Written, UpperLength, LowerLength, FigureLimit}
-use Rattle.rendering.specs.declared.Rendered.{Rendered}
-use Rattle.rendering.specs.Rendering.{RenderingAnswer}
+-- What the result of a call that renders has answered.
+use Rattle.std.specs.Prelude.{Result, Ok, Err}
+use Rattle.bounds.specs.declared.PairRefusal.{PairRefusal}
+use Rattle.bounds.specs.Answers.{pair_refusal_number}
+use Rattle.rendering.specs.declared.write.Text.{Text}
+use Rattle.rendering.specs.Rendering.{RenderingAnswer, refused_rendering}
 
-abbrev pub rendering_number : Rendering → ℕ
-rendering_number Written = 0
-rendering_number UpperLength = 1
-rendering_number LowerLength = 2
-rendering_number FigureLimit = 4
-
--- What a call that returns r has answered.
-abbrev pub rendering_answer : Rendered → RenderingAnswer
-rendering_answer r = record { number = rendering_number r.answer; length = r.length; bytes = r.bytes }
+-- A text with its padding, or a refusal with document 01's number.
+abbrev pub rendering_answer : Result Text PairRefusal → RenderingAnswer
+rendering_answer (Ok t) = record { number = 0; length = t.length; bytes = t.bytes }
+rendering_answer (Err r) = refused_rendering (pair_refusal_number r)

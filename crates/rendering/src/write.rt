@@ -1,83 +1,86 @@
-// Text put into a list of bytes from a place on. Each function gives back the place after what it wrote.
+// A text, and what puts its parts one after the other.
 
-ghost use Rattle.std.specs.Prelude.{◌+◌, ◌≤◌, ◌<◌, [], ◌∷◌, length};
-ghost use Rattle.laws.specs.Writing.{Wrote};
-ghost use Rattle.csv_text.specs.Numbers.{decimal};
-ghost use Rattle.csv_text.specs.Records.{most_if};
-ghost use Rattle.rendering.specs.Rendering.{most_field, line, refusal_line};
-ghost use Rattle.rendering.specs.Steps.{line_length};
+ghost use Rattle.std.specs.Prelude.{◌≤◌};
+ghost use Rattle.rendering.specs.Rendering.{longest};
 
-// A record: three numbers between commas, ended by CR LF. Where `capped` is not set it has no most.
-pub(crate) fn record(
-    window: u32,
-    least: u32,
-    capped: bool,
-    most: u32,
-    out: &mut [u8],
-    at: usize,
-) -> usize
-    requires { at + line_length window least (most_if capped most) ≤ length out.old }
-    ensures { Wrote out.old at (line window least (most_if capped most)) out.new result }
-{
-    let after_window = number(window, out, at);
-    let second = bytes(b",", out, after_window);
-    let after_least = number(least, out, second);
-    let third = bytes(b",", out, after_least);
-    let after_most = most_field(capped, most, out, third);
-    bytes(b"\r\n", out, after_most)
+// The longest text.
+const LONGEST: usize = 5_799;
+
+// The text is the first `length` bytes; the others are 0. Its memory is its own, as nothing here asks for memory.
+#[derive(Clone, Copy)]
+pub struct Text {
+    pub length: usize,
+    pub bytes: [u8; LONGEST],
+    pub ghost fits: { length ≤ longest },
 }
 
-// The last field of a record.
-fn most_field(capped: bool, most: u32, out: &mut [u8], at: usize) -> usize
-    requires { at + length (most_field (most_if capped most)) ≤ length out.old }
-    ensures { Wrote out.old at (most_field (most_if capped most)) out.new result }
-{
-    if capped {
-        return number(most, out, at);
+impl Text {
+    ghost use Rattle.std.specs.Prelude.{Ok, ◌≡◌, ◌+◌, ◌<◌, [], ◌∷◌, length, take};
+    ghost use Rattle.csv_text.specs.Numbers.{decimal};
+    ghost use Rattle.csv_text.specs.Records.{most_in};
+    ghost use Rattle.rendering.specs.Rendering.{line, written};
+    ghost use Rattle.rendering.specs.Answers.{rendering_answer};
+    ghost use Rattle.rendering.specs.Steps.{line_length, Pushed};
+
+    // The bytes of the text alone.
+    pub fn as_bytes(&self) -> &[u8]
+        ensures { result.now ≡ take self.now.length self.now.bytes }
+    {
+        &self.bytes[..self.length]
     }
-    at
-}
 
-// The line that tells a refusal.
-pub(crate) fn refusal_line(n: u32, out: &mut [u8]) -> usize
-    requires { 10 + length (decimal n) ≤ length out.old }
-    ensures { Wrote out.old 0 (refusal_line n) out.new result }
-{
-    let after_word = bytes(b"refused ", out, 0);
-    let after_number = number(n, out, after_word);
-    bytes(b"\r\n", out, after_number)
-}
-
-// A number in decimal digits: those of its tenth first.
-fn number(n: u32, out: &mut [u8], at: usize) -> usize
-    requires { at + length (decimal n) ≤ length out.old }
-    ensures { Wrote out.old at (decimal n) out.new result }
-{
-    if n < 10 {
-        return digit(n, out, at);
+    // No text yet.
+    pub(crate) fn new() -> Text
+        ensures { rendering_answer (Ok result) ≡ written [] }
+    {
+        Text {
+            length: 0,
+            bytes: [0; LONGEST],
+        }
     }
-    let last = number(n / 10, out, at);
-    digit(n % 10, out, last)
-}
 
-// One digit.
-fn digit(n: u32, out: &mut [u8], at: usize) -> usize
-    requires { (n < 10) × (at < length out.old) }
-    ensures { Wrote out.old at ((48 + n) ∷ []) out.new result }
-{
-    out[at] = b'0' + n as u8;
-    at + 1
-}
-
-// Bytes as they are.
-pub(crate) fn bytes(text: &[u8], out: &mut [u8], at: usize) -> usize
-    requires { at + length text.now ≤ length out.old }
-    ensures { Wrote out.old at text.now out.new result }
-{
-    let mut i = 0;
-    while i < text.len() {
-        out[at + i] = text[i];
-        i += 1;
+    // A record: three numbers between commas, ended by CR LF. Where there is no most, the last field is empty.
+    pub(crate) fn push_record(&mut self, window: u32, least: u32, most: Option<u32>)
+        requires { self.old.length + line_length window least (most_in most) ≤ longest }
+        ensures { Pushed self.old (line window least (most_in most)) self.new }
+    {
+        self.push_number(window);
+        self.push(b',');
+        self.push_number(least);
+        self.push(b',');
+        if let Some(most) = most {
+            self.push_number(most);
+        }
+        self.push_bytes(b"\r\n");
     }
-    at + i
+
+    // A number in decimal digits: those of its tenth first.
+    pub(crate) fn push_number(&mut self, n: u32)
+        requires { self.old.length + length (decimal n) ≤ longest }
+        ensures { Pushed self.old (decimal n) self.new }
+    {
+        if 10 <= n {
+            self.push_number(n / 10);
+        }
+        self.push(b'0' + (n % 10) as u8);
+    }
+
+    // Bytes as they are.
+    pub(crate) fn push_bytes(&mut self, bytes: &[u8])
+        requires { self.old.length + length bytes.now ≤ longest }
+        ensures { Pushed self.old bytes.now self.new }
+    {
+        let end = self.length + bytes.len();
+        self.bytes[self.length..end].copy_from_slice(bytes);
+        self.length = end;
+    }
+
+    // One byte.
+    fn push(&mut self, byte: u8)
+        requires { self.old.length < longest }
+        ensures { Pushed self.old (byte ∷ []) self.new }
+    {
+        self.bytes[self.length] = byte;
+        self.length += 1;
+    }
 }

@@ -1,56 +1,69 @@
--- What a step's answer leads to, by its number. Assumes nothing.
-use Rattle.laws.proofs.Base.{ℕ, ◌≤◌, ◌<◌, ◌≡◌, sym, ap, ◌∙◌, Bool, cond, List, arith}
-use Rattle.laws.proofs.Base.{eqb, length, take, replicate, length-take-le}
-use Rattle.curves.specs.Pairs.{Pair, pair_of}
-use Rattle.curves.specs.Unlimited.{AnyPair, with_mark}
-use Rattle.bounds.specs.Bounds.{max_horizon}
-use Rattle.closure.specs.Closing.{closing}
+-- What a step's answer leads to, by its result. Assumes nothing.
+use Rattle.std.specs.Prelude.{Ok, Err}
+use Rattle.laws.proofs.Base.{ℕ, ◌≡◌, refl, sym, ap, ◌∙◌, Bool}
+use Rattle.curves.specs.Pairs.{Pair}
+use Rattle.curves.specs.Unlimited.{AnyPair}
+use Rattle.bounds.specs.declared.PairRefusal.{PairRefusal}
+use Rattle.bounds.specs.declared.PairRefusal.TheVariants.{UpperLength, LowerLength, FigureLimit}
+use Rattle.bounds.specs.Answers.{pair_refusal_number}
+use Rattle.closure.specs.declared.ClosingRefusal.{ClosingRefusal}
+use Rattle.closure.specs.declared.ClosingRefusal.TheVariants as closing-refusal
+use Rattle.closure.specs.Closing.{ClosingAnswer, closing}
+use Rattle.closure.specs.Answers.{closing_refusal_number, closing_answer}
 use Rattle.csv_text.specs.Text.{Bytes}
-use Rattle.rendering.specs.declared.Rendered.{Rendered}
-use Rattle.rendering.specs.Rendering.{refusal_line, text_of, written, rendering}
-use Rattle.rendering.specs.Answers.{rendering_answer, rendering_number}
+use Rattle.constraints.specs.declared.ReadingRefusal.{ReadingRefusal}
+use Rattle.constraints.specs.declared.ReadingRefusal.TheVariants as reading-refusal
+use Rattle.constraints.specs.Reading.{ReadingAnswer, reading}
+use Rattle.constraints.specs.Answers.{reading_refusal_number, reading_answer}
+use Rattle.rendering.specs.declared.write.Text.{Text}
+use Rattle.rendering.specs.Rendering.{RenderingAnswer, refusal_line, written, rendering}
+use Rattle.rendering.specs.Answers.{rendering_answer}
 use Rattle.rendering.proofs.Said.{written_is, written_iff_all_yes}
-use Rattle.report.specs.declared.Output.{Output}
-use Rattle.report.specs.Report.{zero_lists, first_marked, after_rendering, after_closing, reported}
-use Rattle.report.proofs.Said.{refuses, goes_on, rendered_is}
+use Rattle.report.specs.Report.{zero_lists, first_marked, after_rendering, after_closing, after_reading, output}
+use Rattle.report.proofs.Said.{rendered_is}
 
--- The output for an answer with the number n, which was told as m: its line, or what the next step leads to.
-module _ (n m : ℕ) (x : Bytes) (o : Output) (e : m ≡ n) where
-  pub line_told : 0 < m → o ≡ reported (refusal_line m) → o ≡ reported (cond (eqb n 0) x (refusal_line n))
-  line_told h is = is ∙ ap (λ k. reported (refusal_line k)) e ∙ ap reported (sym (refuses n x (refusal_line n) (omega arith)))
+-- A refusal leads to its line.
+pub rendering_refused : (r : PairRefusal) → after_rendering (rendering_answer (Err r)) ≡ refusal_line (pair_refusal_number r)
+rendering_refused UpperLength = refl
+rendering_refused LowerLength = refl
+rendering_refused FigureLimit = refl
 
-  pub next_told : m ≤ 0 → o ≡ reported x → o ≡ reported (cond (eqb n 0) x (refusal_line n))
-  next_told h is = is ∙ ap reported (sym (goes_on n x (refusal_line n) (omega arith)))
+pub closing_refused : (r : ClosingRefusal) (h : ℕ) (left : Pair)
+    → after_closing h (closing_answer (Err r) left) ≡ refusal_line (closing_refusal_number r)
+closing_refused (closing-refusal.Pair UpperLength) h left = refl
+closing_refused (closing-refusal.Pair LowerLength) h left = refl
+closing_refused (closing-refusal.Pair FigureLimit) h left = refl
+closing_refused closing-refusal.ResultLength h left = refl
+closing_refused closing-refusal.NoClosure h left = refl
 
--- The report for an answer into lists that were found blank.
-pub into_zeros : {A : Type 0} (f : Pair → A) (g : A → Output) (us ls : List ℕ) (a : A) (o : Output)
-    → us ≡ replicate max_horizon 0 → ls ≡ replicate max_horizon 0 → a ≡ f (pair_of us ls) → o ≡ g a → o ≡ g (f zero_lists)
-unfolding zero_lists
-into_zeros f g us ls a o u l e is = is ∙ ap g (e ∙ (λ i. f (pair_of (u i) (l i))))
+pub reading_refused : (r : ReadingRefusal) (left : Pair)
+    → after_reading (reading_answer (Err r) left) ≡ refusal_line (reading_refusal_number r)
+reading_refused reading-refusal.HeaderLine left = refl
+reading_refused reading-refusal.RecordForm left = refl
+reading_refused reading-refusal.FigureRange left = refl
+reading_refused reading-refusal.WindowAgain left = refl
+reading_refused reading-refusal.NoRecord left = refl
+reading_refused reading-refusal.ResultLength left = refl
 
--- ---- reading
--- The pair that was read is closed, up to a horizon that was told as h, with the mark that was told as m.
-pub pair_told : (us ls : List ℕ) (h k : ℕ) (m b : Bool) (o : Output) → h ≡ k → m ≡ b → h ≤ length us
-    → o ≡ reported (after_closing (length (take h us)) (closing (with_mark (take h us) (take h ls) m) zero_lists))
-    → o ≡ reported (after_closing k (closing (first_marked k (pair_of us ls) b) zero_lists))
-pair_told us ls h k m b o e f l is =
-    is
-    ∙ ap (λ n. reported (after_closing n (closing (first_marked h (pair_of us ls) m) zero_lists))) (length-take-le h us l)
-    ∙ (λ i. reported (after_closing (e i) (closing (first_marked (e i) (pair_of us ls) (f i)) zero_lists)))
+-- What each step's answer leads to is the output, where what the one before led to is.
+module _ (t : Bytes) where
+  pub output_read : (a : ReadingAnswer) → a ≡ reading t zero_lists → after_reading a ≡ output t
+  unfolding output
+  output_read a e = ap after_reading e
 
--- The closure is rendered with the mark that was told as m.
-pub mark_told : (us ls : List ℕ) (m b : Bool) (o : Output) → m ≡ b → o ≡ reported (after_rendering (rendering (with_mark us ls m)))
-    → o ≡ reported (after_rendering (rendering (with_mark us ls b)))
-mark_told us ls m b o f is = is ∙ ap (λ x. reported (after_rendering (rendering (with_mark us ls x)))) f
+  pub output_closed : (h : ℕ) (read : Pair) (mark : Bool) (p : AnyPair) (a : ClosingAnswer)
+      → after_closing h (closing (first_marked h read mark) zero_lists) ≡ output t → p ≡ first_marked h read mark
+      → a ≡ closing p zero_lists → after_closing h a ≡ output t
+  output_closed h read mark p a o f e = ap (after_closing h) (e ∙ ap (λ x. closing x zero_lists) f) ∙ o
 
--- ---- rendering
-module _ (r : Rendered) (o : Output) (shown : (o.length ≡ r.length) × (o.bytes ≡ r.bytes)) where
-  pub text_shown : (t : Bytes) → rendering_answer r ≡ written t → o ≡ reported t
-  text_shown t e =
-      λ i. record { length = (shown.0 ∙ ap (λ a. a.length) e) i; bytes = (shown.1 ∙ ap (λ a. a.bytes) e) i }
+  pub output_rendered : (h : ℕ) (closed : Pair) (mark : Bool) (p : AnyPair) (a : RenderingAnswer)
+      → after_rendering (rendering (first_marked h closed mark)) ≡ output t → p ≡ first_marked h closed mark
+      → a ≡ rendering p → after_rendering a ≡ output t
+  output_rendered h closed mark p a o f e = ap after_rendering (e ∙ ap rendering f) ∙ o
 
-  pub pair_shown : (p : AnyPair) → rendering_answer r ≡ rendering p → rendering_number r.answer ≡ 0
-      → o ≡ reported (after_rendering (rendering p))
-  pair_shown p e z =
-      let ok = (written_iff_all_yes p).0 (ap (λ a. a.number) (sym e) ∙ z) in
-      text_shown (text_of p) (e ∙ written_is p ok) ∙ ap reported (sym (rendered_is p ok))
+-- A text leads to itself, where a pair is rendered.
+pub text_shown : (p : AnyPair) (x : Text) → rendering_answer (Ok x) ≡ rendering p
+    → rendering_answer (Ok x) ≡ written (after_rendering (rendering_answer (Ok x)))
+text_shown p x e =
+    let ok = (written_iff_all_yes p).0 (ap (λ a. a.number) (sym e)) in
+    e ∙ written_is p ok ∙ ap written (sym (rendered_is p ok) ∙ ap after_rendering (sym e))

@@ -1,7 +1,7 @@
 -- What the output is, from what reading, closing and rendering answer. Assumes nothing.
-use Rattle.laws.proofs.Base.{ℕ, zero, suc, ◌-◌, ◌≤◌, ◌≡◌, refl, sym, ap, ◌∙◌, subst, Bool, cond, List, [], ◌∷◌, ◌++◌, ◌⊎◌, inl, inr, ⊎_elim}
-use Rattle.laws.proofs.Base.{arith, eq-eqb, ne_eqb, eqb, length, get_or, take, replicate, length-append, length-replicate, list_get_or-append}
-use Rattle.laws.proofs.Base.{length-take-le, take-append_seam}
+use Rattle.laws.proofs.Base.{ℕ, zero, suc, ◌≤◌, ◌≡◌, refl, sym, ap, ◌∙◌, subst, Bool, cond, List, [], ◌∷◌, ◌++◌, ◌⊎◌, inl, inr, ⊎_elim}
+use Rattle.laws.proofs.Base.{arith, eq-eqb, ne_eqb, eqb, length, get_or, length-append, length-replicate, list_get_or-append}
+use Rattle.laws.proofs.Base.{take-append_seam}
 use Rattle.laws.specs.Ranges.{fold}
 use Rattle.laws.specs.Tests.{Each}
 use Rattle.curves.specs.Streams.{Stream}
@@ -24,8 +24,7 @@ use Rattle.constraints.proofs.Said.{refused_is, pair_iff_all_yes, text_horizon, 
 use Rattle.constraints.proofs.Streams.{text_pair_passes, satisfies_iff_conforms}
 use Rattle.rendering.specs.Rendering.{longest, line, most_at, text_of, refusal_line, rendering}
 use Rattle.rendering.proofs.Said.{written_is, text_fits, refusal_fits}
-use Rattle.report.specs.declared.Output.{Output}
-use Rattle.report.specs.Report.{zero_lists, after_rendering, after_closing, after_reading, output, reported}
+use Rattle.report.specs.Report.{zero_lists, after_rendering, after_closing, after_reading, output}
 use Rattle.report.specs.Theorems.{pair_in, OutputIs, OutputRefusedIffNoStream, OutputFits}
 
 -- ---- a step's answer
@@ -187,13 +186,3 @@ output_fits t =
 
     short : (n : ℕ) → n ≤ 10 → Fits (refusal_line n)
     short n l = refusal_fits n (omega arith)
-
--- The length that `report` gives back is within its bytes, so that the output can be taken as a part of them.
-module _ (t : Bytes) (o : Output) (e : o ≡ reported (output t)) where
-  pub reported_within : o.length ≤ length o.bytes
-  reported_within =
-      let whole = length-append (output t) (replicate {A = ℕ} (longest - length (output t)) 0) in
-      omega (arith, ap (λ x. x.length) e, ap (λ x. length x.bytes) e, whole)
-
-  pub reported_part : o.length ≡ length (take o.length o.bytes)
-  reported_part = sym (length-take-le o.length o.bytes reported_within)

@@ -1,3 +1,4 @@
--- The figures program's output, and what is proved of it.
+-- The figures program's output, what is proved of it, and what the private functions promise each other.
 pub mod Report
 pub mod Theorems
+pub mod Steps

@@ -1,13 +1,12 @@
 -- The figures program (document 01, "The figures program"): its whole output as a function of its input.
-use Rattle.std.specs.Prelude.{ℕ, Bool, cond, eqb, length, take, replicate}
+use Rattle.std.specs.Prelude.{ℕ, Bool, cond, eqb, take, replicate}
 use Rattle.curves.specs.Pairs.{Pair, pair_of}
 use Rattle.curves.specs.Unlimited.{AnyPair, with_mark}
 use Rattle.bounds.specs.Bounds.{max_horizon}
 use Rattle.closure.specs.Closing.{ClosingAnswer, closing}
 use Rattle.csv_text.specs.Text.{Bytes}
 use Rattle.constraints.specs.Reading.{ReadingAnswer, reading}
-use Rattle.rendering.specs.Rendering.{padded_text, refusal_line, RenderingAnswer, rendering}
-use Rattle.report.specs.declared.Output.{Output}
+use Rattle.rendering.specs.Rendering.{refusal_line, RenderingAnswer, rendering}
 
 -- Two lists of the longest horizon, lent for results.
 unfoldable pub zero_lists : Pair
@@ -34,7 +33,3 @@ after_reading a =
 -- The output for the text t: reading, closing, rendering.
 unfoldable pub output : Bytes → Bytes
 output t = after_reading (reading t zero_lists)
-
--- The same as `report` gives it back: the bytes, padded, and their number.
-abbrev pub reported : Bytes → Output
-reported o = record { length = length o; bytes = padded_text o }

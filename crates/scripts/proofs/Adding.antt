@@ -16,14 +16,6 @@ filled_entry {f} {found} {n = n} t i l =
     ∙ list_get_or-append (table f n) _ 0 i (rw length-table l)
     ∙ get_or-table f n i 0 l
 
--- The figure that comes to the place of d ticks, counted from the last.
-abbrev pub from_last : List ℕ → ℕ → ℕ
-from_last figures d = get_or figures (length figures - d) 0
-
--- The same by the place.
-pub from_last_lem : (figures : List ℕ) (i : ℕ) → get_or figures (length figures - 1 - i) 0 ≡ from_last figures (i + 1)
-from_last_lem figures i = let e : length figures - 1 - i ≡ length figures - (i + 1) = omega arith in ap (λ k. get_or figures k 0) e
-
 -- ---- sums
 -- The sum of no ticks is 0.
 pub kept_none : (xs sums : List ℕ) → get_or sums (length sums - 1) 0 ≡ 0 → KeptSums xs 0 sums
@@ -38,29 +30,31 @@ kept_none xs sums e = record { sum_is = is; small = λ d l. go d (omega arith) }
         let e' : length sums - 1 - d ≡ length sums - 1 = omega arith in
         ap (λ k. get_or sums k 0) e' ∙ e ∙ sym (ap (last xs) z ∙ last_none xs)
 
--- The sum of the last d + 1 ticks, from that of the last d.
-pub sum_more : (xs : List ℕ) (d s : ℕ) → d < length xs → s ≡ last xs d → s + get_or xs (length xs - 1 - d) 0 ≡ last xs (d + 1)
-sum_more xs d s l e = rw (add-one d) (omega (arith, last_more xs d l))
+-- The sum of the last d + 1 ticks, from that of the last d: the tick at i comes to it.
+pub sum_more : (xs : List ℕ) (i d k s : ℕ) → k ≡ d + 1 → i + k ≡ length xs → s ≡ last xs d → s + get_or xs i 0 ≡ last xs k
+sum_more xs i d k s e f g =
+    let place : length xs - 1 - d ≡ i = omega arith in
+    rw (e, add-one d) (omega (arith, last_more xs d (omega arith), ap (λ j. get_or xs j 0) place))
 
 -- It is put before that.
-pub kept_more : (xs sums : List ℕ) (d k s : ℕ) → d + 1 < length sums → k ≡ length sums - 1 - (d + 1) → KeptSums xs d sums
-    → s ≡ last xs (d + 1) → s ≤ sum_limit → KeptSums xs (d + 1) (set sums k s)
-kept_more xs sums d k s room place K e m = record { sum_is = is; small = low }
+pub kept_more : (xs sums : List ℕ) (d k p s : ℕ) → k ≡ d + 1 → p + k + 1 ≡ length sums → KeptSums xs d sums
+    → s ≡ last xs k → s ≤ sum_limit → KeptSums xs k (set sums p s)
+kept_more xs sums d k p s more place K e m = record { sum_is = is; small = low }
   where
-    is : (c : ℕ) → c ≤ d + 1 → get_or (set sums k s) (length (set sums k s) - 1 - c) 0 ≡ last xs c
+    is : (c : ℕ) → c ≤ k → get_or (set sums p s) (length (set sums p s) - 1 - c) 0 ≡ last xs c
     is c l =
-        rw (length-set sums k s)
+        rw (length-set sums p s)
         (elim (dec_le c d) [
-          | yes h ↦ get_or-set_other sums k (length sums - 1 - c) s 0 (λ z. omega arith) ∙ K.sum_is c h
+          | yes h ↦ get_or-set_other sums p (length sums - 1 - c) s 0 (λ z. omega arith) ∙ K.sum_is c h
           | no h ↦
-              let z : c ≡ d + 1 = omega arith in
-              let z' : length sums - 1 - c ≡ k = omega arith in
-              ap (λ j. get_or (set sums k s) j 0) z' ∙ get_or-set_same sums k s 0 (omega arith) ∙ e ∙ ap (last xs) (sym z)
+              let z : c ≡ k = omega arith in
+              let z' : length sums - 1 - c ≡ p = omega arith in
+              ap (λ j. get_or (set sums p s) j 0) z' ∙ get_or-set_same sums p s 0 (omega arith) ∙ e ∙ ap (last xs) (sym z)
         ])
 
-    low : (c : ℕ) → c ≤ d + 1 → last xs c ≤ sum_limit
+    low : (c : ℕ) → c ≤ k → last xs c ≤ sum_limit
     low c l =
         elim (dec_le c d) [
           | yes h ↦ K.small c h
-          | no h ↦ let z : c ≡ d + 1 = omega arith in omega (arith, ap (last xs) z)
+          | no h ↦ let z : c ≡ k = omega arith in omega (arith, ap (last xs) z)
         ]

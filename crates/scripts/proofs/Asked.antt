@@ -1,92 +1,61 @@
--- Question 12 of words: the slices of the figures are those of the state that is spelled. Assumes nothing.
-use Rattle.laws.proofs.Base.{ℕ, ◌+◌, ◌-◌, ◌≤◌, ◌<◌, ◌≡◌, sym, ap, ◌∙◌, subst, subst⁻¹, Bool, true, false, ◌&&◌, List, ◌↔◌, arith}
+-- Question 12 of words: what stands in them is what counts of the state that is spelled. Assumes nothing.
+use Rattle.laws.proofs.Base.{ℕ, ◌+◌, ◌-◌, ◌≤◌, ◌<◌, ◌≡◌, sym, ap, ◌∙◌, Bool, true, false, List, ◌↔◌, arith}
 use Rattle.laws.proofs.Base.{length, take, drop}
-use Rattle.laws.specs.Tests.{Tells}
-use Rattle.laws.proofs.Tests.{tells_same, both_told}
-use Rattle.curves.specs.Pairs.{pair_of, horizon}
+use Rattle.laws.proofs.Table.{length-table}
+use Rattle.curves.specs.Pairs.{pair_of, figure}
 use Rattle.curves.specs.Unlimited.{AnyPair, with_mark, alike, AllWithin}
-use Rattle.bounds.specs.Bounds.{figure_limit, question4, Bounded}
+use Rattle.bounds.specs.declared.Curves.{Curves}
+use Rattle.bounds.specs.Bounds.{figure_limit, question4}
 use Rattle.history.specs.States.{entries, view_of, Legal}
-use Rattle.history.specs.Steps.{Slices, view_with}
-use Rattle.history.proofs.Histories.{Sizes, horizon_seen, held_seen, legal_sizes}
+use Rattle.history.proofs.Histories.{horizon_seen, held_seen, legal_sizes}
+use Rattle.history.specs.declared.View as declared
+use Rattle.history.specs.Answers.{view_in}
 use Rattle.monitor.specs.Monitoring.{monitor_view, closed_in, monitor_view_of, LegalMonitor}
-use Rattle.scripts.specs.Words.{mark_from, word, part, history_from, monitor_from, generator_words, monitor_words}
+use Rattle.scripts.specs.Words.{mark_from, word, part, history_from, monitor_from}
+use Rattle.scripts.specs.Steps.{monitor_in}
 use Rattle.scripts.specs.Runs.{ClosedWithin, ClosedWords}
-use Rattle.scripts.proofs.Worded.{part_entries, part_length}
+use Rattle.scripts.proofs.Worded.{part_entries}
 
--- The slice of h words from k on.
-abbrev pub slice : ℕ → ℕ → List ℕ → List ℕ
-slice k h ws = take (k + h - k) (drop k ws)
+-- The slice of h words from k on is what a view has of the 256 words there.
+pub slice_entries : (k h : ℕ) (ws : List ℕ) → k + 256 ≤ length ws → h ≤ 256 → take (k + h - k) (drop k ws) ≡ entries h (part k 256 ws)
+slice_entries k h ws r l =
+    let e : k + h - k ≡ h = omega arith in
+    ap (λ n. take n (drop k ws)) e ∙ sym (part_entries k 256 h ws r l)
 
-pub slice_part : (k h : ℕ) (ws : List ℕ) → slice k h ws ≡ part k h ws
-slice_part k h ws = let e : k + h - k ≡ h = omega arith in ap (λ n. take n (drop k ws)) e
+-- As many as are asked for.
+pub entries_length : (h : ℕ) (xs us : List ℕ) → us ≡ entries h xs → length us ≡ h
+entries_length h xs us e = ap length e ∙ length-table (figure 0 xs) h
 
--- It has h entries.
-pub slice_length : (k h : ℕ) (ws : List ℕ) → k + h ≤ length ws → length (slice k h ws) ≡ h
-slice_length k h ws l = ap length (slice_part k h ws) ∙ part_length k h ws l
+-- The history is legal where its sizes are and no figure is too large.
+module _ (ws : List ℕ) where
+  pub too_long : 256 < word 0 ws → ¬ Legal (view_of (history_from ws))
+  too_long h l = omega (arith, (legal_sizes (history_from ws) l).within)
 
-module _ (ws : List ℕ) (long : generator_words ≤ length ws) where
-  -- What a view has of 256 words, up to the horizon.
-  pub seen : (k h : ℕ) → k + 256 ≤ length ws → h ≤ 256 → slice k h ws ≡ entries h (part k 256 ws)
-  seen k h r l = slice_part k h ws ∙ sym (part_entries k 256 h ws r l)
+  pub too_many_lem : word 0 ws ≤ word 514 ws → ¬ Legal (view_of (history_from ws))
+  too_many_lem h l = omega (arith, (legal_sizes (history_from ws) l).fewer)
 
-  module _ (h≤ : word 0 ws ≤ 256) where
-    pub pair_seen : with_mark (slice 2 (word 0 ws) ws) (slice 258 (word 0 ws) ws) (mark_from (word 1 ws)) ≡ (view_of (history_from ws)).pair
-    pair_seen =
-        λ i. with_mark (seen 2 (word 0 ws) (omega arith) h≤ i) (seen 258 (word 0 ws) (omega arith) h≤ i) (mark_from (word 1 ws))
+  pub history_legal : word 0 ws ≤ 256 → word 514 ws < word 0 ws → AllWithin figure_limit (view_of (history_from ws)).pair
+      → Legal (view_of (history_from ws))
+  history_legal h k a =
+      record {
+        lengths = (omega (arith, horizon_seen (history_from ws)), omega (arith, horizon_seen (history_from ws)));
+        figures = a;
+        fewer = omega (arith, horizon_seen (history_from ws), held_seen (history_from ws));
+      }
 
-    pub history_told : (b : Bool) → word 514 ws < word 0 ws
-        → Tells b (AllWithin figure_limit (with_mark (slice 2 (word 0 ws) ws) (slice 258 (word 0 ws) ws) (mark_from (word 1 ws))))
-        → Tells b (Legal (view_of (history_from ws)))
-    history_told b fewer t =
-        tells_same b (
-          λ a. record {
-            lengths = (omega (arith, horizon_seen (history_from ws)), omega (arith, horizon_seen (history_from ws)));
-            figures = subst (λ (p : AnyPair). AllWithin figure_limit p) pair_seen a;
-            fewer = omega (arith, horizon_seen (history_from ws), held_seen (history_from ws));
-          },
-          λ l. subst⁻¹ (λ (p : AnyPair). AllWithin figure_limit p) pair_seen l.figures,
-        ) t
+-- What it asks of the closed figures, by the mark and the figures that are handed out.
+module _ (ws cus cls : List ℕ) (b : Bool) (mark : b ≡ mark_from (word 1 ws)) (u : cus ≡ entries (word 0 ws) (part 771 256 ws))
+    (l : cls ≡ entries (word 0 ws) (part 1_027 256 ws)) where
+  pub none_asked : b ≡ true → ClosedWords ws
+  none_asked e = rw (← mark, e) tt
 
-    pub view_seen : (k : ℕ) → k ≤ 256 → k ≡ word 514 ws
-        → view_with (slice 2 (word 0 ws) ws) (slice 258 (word 0 ws) ws) (mark_from (word 1 ws)) (slice 515 k ws) ≡ view_of (history_from ws)
-    view_seen k l e =
-        λ i. record { pair = pair_seen i; held = (seen 515 k (omega arith) l ∙ ap (λ n. entries n (part 515 256 ws)) e) i }
+  pub closed_within : b ≡ false → AllWithin figure_limit (with_mark cus cls b) → ClosedWords ws
+  closed_within e a = rw (← mark, e, ← u, ← l) (rw e at a)
 
--- Sizes that are refused.
-pub too_long : (ws : List ℕ) → 256 < word 0 ws → ¬ Legal (view_of (history_from ws))
-too_long ws h l = omega (arith, (legal_sizes (history_from ws) l).within)
+  pub within_closed : b ≡ false → ClosedWords ws → AllWithin figure_limit (with_mark cus cls b)
+  within_closed e a = rw e (rw (← mark, e, ← u, ← l) at a)
 
-pub too_many_lem : (ws : List ℕ) → word 0 ws ≤ word 514 ws → ¬ Legal (view_of (history_from ws))
-too_many_lem ws h l = omega (arith, (legal_sizes (history_from ws) l).fewer)
-
--- ---- the closed figures
-module _ (ws : List ℕ) (long : length ws ≡ monitor_words) (h≤ : word 0 ws ≤ 256) where
-  enough : generator_words ≤ length ws
-  enough = omega arith
-
-  pub none_asked : mark_from (word 1 ws) ≡ true → ClosedWords ws
-  none_asked e = rw e tt
-
-  pub closed_told : (a b : Bool) → mark_from (word 1 ws) ≡ false → Tells a (Bounded (slice 771 (word 0 ws) ws))
-      → Tells b (Bounded (slice 1_027 (word 0 ws) ws)) → Tells (a && b) (ClosedWords ws)
-  closed_told a b e t u =
-      rw e
-      (both_told (Bounded (entries (word 0 ws) (part 771 256 ws))) (Bounded (entries (word 0 ws) (part 1_027 256 ws))) a b
-      (subst (λ us. Tells a (Bounded us)) (seen ws enough 771 (word 0 ws) (omega arith) h≤) t)
-      (subst (λ us. Tells b (Bounded us)) (seen ws enough 1_027 (word 0 ws) (omega arith) h≤) u))
-
-  pub monitor_seen : (k : ℕ) (f : Bool) → k ≤ 256 → k ≡ word 514 ws → mark_from (word 1_283 ws) ≡ f
-      → monitor_view (view_with (slice 2 (word 0 ws) ws) (slice 258 (word 0 ws) ws) (mark_from (word 1 ws)) (slice 515 k ws))
-      (closed_in (with_mark (slice 2 (word 0 ws) ws) (slice 258 (word 0 ws) ws) (mark_from (word 1 ws)))
-      (pair_of (slice 771 (word 0 ws) ws) (slice 1_027 (word 0 ws) ws))) f
-      ≡ monitor_view_of (monitor_from ws)
-  monitor_seen k f l e g =
-      λ i. monitor_view (view_seen ws enough h≤ k l e i)
-      (closed_in (pair_seen ws enough h≤ i)
-      (pair_of (seen ws enough 771 (word 0 ws) (omega arith) h≤ i) (seen ws enough 1_027 (word 0 ws) (omega arith) h≤ i))) (sym g i)
-
--- Together: question 12 asks no more of an unlimited state than of its history.
+-- Of a monitor, question 12 asks no more of an unlimited state than of its history.
 module _ (us ls : List ℕ) (h : ℕ) (cus cls : List ℕ) where
   abbrev Asked : Bool → Type 0
   Asked b =
@@ -107,12 +76,9 @@ legal_parts ws = (
   λ l. (l.given, within_from _ _ _ _ _ (mark_from (word 1 ws)) l.bounded),
 )
 
--- The slices that are handed on.
-pub slices : (ws : List ℕ) (a b h k : ℕ) → generator_words ≤ length ws → a + h ≤ length ws → b + h ≤ length ws → h ≤ 256 → k < h
-    → Slices (slice a h ws) (slice b h ws) (slice 515 k ws)
-slices ws a b h k long l m n f =
-    record {
-      lowers = slice_length b h ws m ∙ sym (slice_length a h ws l);
-      within = omega (arith, slice_length a h ws l);
-      fewer = omega (arith, slice_length a h ws l, slice_length 515 k ws (omega arith));
-    }
+-- A monitor that has not failed, of what stands in its words.
+pub monitor_seen : (ws : List ℕ) (v : declared.View) (q : Curves) → view_in v ≡ view_of (history_from ws)
+    → q.upper.now ≡ entries (word 0 ws) (part 771 256 ws) → q.lower.now ≡ entries (word 0 ws) (part 1_027 256 ws)
+    → false ≡ mark_from (word 1_283 ws) → monitor_in v q ≡ monitor_view_of (monitor_from ws)
+monitor_seen ws v q e u l f =
+    λ i. monitor_view (e i) (closed_in (e i).pair (pair_of (u i) (l i))) (f i)

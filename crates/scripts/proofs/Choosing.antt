@@ -232,10 +232,6 @@ module _ (cs ms ticks choices found : List ℕ) where
   unfolding sendings
   sends_none us ls b C M l = record { within = omega arith; sent = refl; whole = refl; others = refl }
 
-  pub sends_all : (sums counts : List ℕ) (first lo hi i : ℕ) → SentTo sums counts first lo hi i → SendsBy cs ms ticks choices found counts i
-  sends_all sums counts first lo hi i T us ls b C M l =
-      record { within = T.turn; sent = T.sent us ls b C M l; whole = T.whole; others = T.others }
-
   module _ (F : FiguresRaised cs ms) (same : length found ≡ length choices) (sums counts : List ℕ) (first lo hi i x first' : ℕ)
       (T : SentTo sums counts first lo hi i) (more : i < length choices) (some : lo ≤ hi)
       (is : x ≡ lo - sum_limit + get_or choices i 0 % (hi - lo + 1)) (low : x ≤ sum_limit - get_or sums first 0)

@@ -15,7 +15,7 @@ use Rattle.history.specs.Steps.{Slices, view_with}
 use Rattle.monitor.specs.Monitoring.{MonitorView, monitor_view, closed_in, LegalMonitor, judged, ruled, judging}
 use Rattle.monitor.specs.Calls.{after_tick, monitor_after, rulings}
 use Rattle.monitor.proofs.Said.{judging_unfailed}
-use Rattle.scripts.specs.Steps.{sum_limit, strict_ceiling, strict_least, TurnedStrict, Placed, KeepsTurned, KeepFirst}
+use Rattle.scripts.specs.Steps.{sum_limit, strict_ceiling, strict_least, TurnedBy, Placed, KeepsTurned, KeepFirst}
 use Rattle.scripts.specs.Steps.{PassesFirst}
 
 -- ---- sums at the beginning of an array
@@ -139,7 +139,7 @@ module _ (us ls : List ℕ) (b : Bool) (cus cls : List ℕ) where
 
   module _ (xs : List ℕ) (S : Slices us ls xs) (S' : Slices cus cls xs) (same : length cus ≡ h)
       (L : LegalMonitor (seen xs)) (ceilings leasts : List ℕ)
-      (C : TurnedStrict (strict_ceiling b) us cus ceilings) (D : TurnedStrict (strict_least b) ls cls leasts) where
+      (C : TurnedBy (λ x y z. z ≡ strict_ceiling b x y) us cus ceilings) (D : TurnedBy (λ x y z. z ≡ strict_least b x y) ls cls leasts) where
     ceilings_length : length (take h ceilings) ≡ h
     ceilings_length = length-take-le h ceilings C.room
 

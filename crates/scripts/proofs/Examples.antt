@@ -1,5 +1,5 @@
 -- The definitions of specs/ at small examples: each holds by computation. Assumes nothing.
-use Rattle.laws.proofs.Base.{ℕ, ◌≡◌, refl, true, false, List, [], ◌∷◌, length}
+use Rattle.laws.proofs.Base.{◌≡◌, refl, true, [], ◌∷◌, length}
 use Rattle.laws.specs.Ranges.{table}
 use Rattle.curves.specs.Pairs.{pair_of, figure}
 use Rattle.curves.specs.Unlimited.{AnyPair, limited, unlimited}
@@ -9,7 +9,7 @@ use Rattle.history.specs.States.{view_of}
 use Rattle.history.specs.Opening.{fresh}
 use Rattle.monitor.specs.Monitoring.{judged}
 use Rattle.scripts.specs.Codes.{minus, ruling_code, sending_code}
-use Rattle.scripts.specs.Words.{word, part, history_from, with_held, failed_word, opened_words}
+use Rattle.scripts.specs.Words.{part, history_from, with_held, failed_word, opened_words}
 
 -- At most 3 in one tick and 4 in two, at least 1 in two; and the same without ceilings.
 abbrev ceilings : AnyPair

@@ -1,12 +1,12 @@
 -- The words that an opening writes spell the state that it hands out. Assumes nothing.
-use Rattle.laws.proofs.Base.{ℕ, suc, ◌+◌, ◌-◌, ◌≤◌, ◌<◌, ◌≡◌, refl, sym, ap, ◌∙◌, Bool, true, false, List, [], ◌∷◌, ◌++◌, arith}
-use Rattle.laws.proofs.Base.{length, get_or, take, drop, replicate, length-append, length-replicate, take_at, list_get_or-append, add-zero}
+use Rattle.laws.proofs.Base.{ℕ, ◌+◌, ◌-◌, ◌≤◌, ◌<◌, ◌≡◌, refl, sym, ap, ◌∙◌, true, false, List, [], ◌∷◌, ◌++◌, arith}
+use Rattle.laws.proofs.Base.{length, get_or, take, drop, replicate, take_at, list_get_or-append, add-zero}
 use Rattle.laws.proofs.Base.{length-drop}
 use lib.Seq.{drop_at, drop-drop, drop-append-le, take-append-le, get_or-append-add}
 use Rattle.laws.specs.Ranges.{table}
 use Rattle.laws.proofs.Table.{length-table}
 use Rattle.curves.specs.Pairs.{Pair, pair_of, horizon, figure}
-use Rattle.curves.specs.Unlimited.{AnyPair, limited, unlimited, with_mark, curves_of}
+use Rattle.curves.specs.Unlimited.{AnyPair, limited, unlimited, curves_of}
 use Rattle.curves.specs.Questions.{AllYes, result}
 use Rattle.curves.proofs.Asked.{yes_parts, result_from}
 use Rattle.curves.proofs.Highest.{length-highest}
@@ -14,12 +14,12 @@ use Rattle.bounds.specs.Bounds.{max_horizon, pair_questions}
 use Rattle.closure.specs.Closing.{question5}
 use Rattle.closure.specs.Theorems.{closure_of, room}
 use Rattle.closure.proofs.Given.{given_horizon, given_even}
-use Rattle.history.specs.States.{View, entries, history_of, view_of}
+use Rattle.history.specs.States.{entries, history_of, view_of}
 use Rattle.history.specs.Opening.{fresh}
 use Rattle.history.specs.Steps.{view_with}
 use Rattle.history.proofs.Histories.{entries_padded}
 use Rattle.monitor.specs.Monitoring.{monitor_view, closed_in, monitor_view_of}
-use Rattle.monitor.specs.Opening.{monitor_questions, monitor_opening, fresh_monitor}
+use Rattle.monitor.specs.Opening.{monitor_questions, monitor_opening}
 use Rattle.monitor.proofs.Opening.{opened_gives}
 use Rattle.generator.proofs.Opening.{opened_from}
 use Rattle.scripts.specs.Words.{mark_from, word, part, history_from, monitor_from, padded, opened_words}

@@ -1,26 +1,36 @@
 -- What the operations on words give back: refused with 12, or run. Assumes nothing.
-use Rattle.laws.proofs.Base.{ℕ, suc, ◌+◌, ◌-◌, ◌≤◌, ◌<◌, min, ◌≡◌, refl, sym, ap, ◌∙◌, subst⁻¹, Bool, List, [], ◌∷◌, ◌++◌, map, inl, arith}
+use Rattle.laws.proofs.Base.{ℕ, ◌-◌, ◌≤◌, min, ◌≡◌, refl, sym, ap, ◌∙◌, subst⁻¹, List, [], ◌∷◌, ◌++◌, ◌⊎◌, inl, inr, ⊎_elim, arith}
 use Rattle.laws.proofs.Base.{length, take, drop, take_all, length-take-le, append-nil, drop_of_length-le, dec_le, take_at, length-drop}
 use Rattle.laws.proofs.Base.{length-append}
+use Rattle.std.proofs.Common.{Result, Ok, Err, IsErr}
 use lib.IntN.{ℤ}
 use lib.ListN.{take-append-drop}
 use lib.Seq.{drop-nil}
 use borrow.Rule.Slice.PartMut.{mid_of, put_mid}
 use Rattle.laws.specs.Writing.{over}
 use Rattle.laws.proofs.Copying.{over_whole}
+use Rattle.curves.specs.Questions.{AllYes, FirstNo, Reply, refusal, ask}
 use Rattle.curves.proofs.Asked.{said_yes, said_no}
+use Rattle.history.specs.declared.BadState.{BadState}
 use Rattle.history.specs.States.{View, view_of}
 use Rattle.monitor.specs.Monitoring.{MonitorView, monitor_view_of}
 use Rattle.monitor.specs.Calls.{after_ticks}
-use Rattle.generator.specs.Generating.{ranging}
+use Rattle.generator.specs.Generating.{RangeAnswer, ranging}
 use Rattle.generator.specs.Calls.{after_sendings}
 use Rattle.scripts.specs.Codes.{minus}
+use Rattle.scripts.specs.Answers.{counted}
 use Rattle.scripts.specs.Words.{history_from, monitor_from, LegalMonitorWords, LegalGeneratorWords, with_held, monitor_left}
-use Rattle.scripts.specs.Scripts.{Judged, judged, judged_all, Sent, sent, sent_all, looked, range_number}
+use Rattle.scripts.specs.Words.{generator_question12}
+use Rattle.scripts.specs.Scripts.{judged, judged_all, sent, sent_all, looked, looking, range_number}
 use Rattle.scripts.specs.Runs.{JudgedFirst, JudgedRest, SentFirst, SentRest}
 use Rattle.scripts.proofs.Pieces.{after_view, after_legal, after_more, sent_view, sent_more}
 use Rattle.scripts.proofs.Pieces as pieces
-use Rattle.scripts.proofs.Running.{codes, values, sends, codes_append, values_append, sends_append, codes_length, sends_length}
+use Rattle.scripts.proofs.Running.{codes, values, sends, codes_append, sends_append, codes_length, sends_length}
+
+-- A refusal is 12 with a minus sign.
+pub counted_err : (r : Result ℕ BadState) → IsErr r → counted r ≡ minus 12
+counted_err (Ok n) e = cc
+counted_err (Err b) e = refl
 
 module _ (ws xs vs : List ℕ) (ms : List ℤ) where
   pub judged_bad : ¬ LegalMonitorWords ws → judged_all ws xs vs ms ≡ judged (minus 12) ws vs ms
@@ -42,13 +52,26 @@ module _ (ws xs cs : List ℕ) where
   unfolding sent_all
   sent_legal l = said_yes _ _ _ _ (l, tt) (λ ys. refl)
 
-pub looked_bad : (ws : List ℕ) → ¬ LegalGeneratorWords ws → looked ws ≡ minus 12
-unfolding looked
-looked_bad ws n = said_no _ _ _ 12 (inl (refl, n))
+pub looking_bad : (ws : List ℕ) → ¬ LegalGeneratorWords ws → looking ws ≡ refusal 12
+unfolding looking
+looking_bad ws n = said_no _ _ _ 12 (inl (refl, n))
 
-pub looked_legal : (ws : List ℕ) → LegalGeneratorWords ws → looked ws ≡ range_number (ranging (view_of (history_from ws)))
-unfolding looked
-looked_legal ws l = said_yes _ _ _ _ (l, tt) (λ ys. refl)
+pub looking_legal : (ws : List ℕ) → LegalGeneratorWords ws → looking ws ≡ ranging (view_of (history_from ws))
+unfolding looking
+looking_legal ws l = said_yes _ _ _ _ (l, tt) (λ ys. refl)
+
+-- The number of a look is that of its answer.
+pub looked_number : (ws : List ℕ) → looked ws ≡ range_number (looking ws)
+unfolding looked looking
+looked_number ws = go (ask (generator_question12 ws ∷ []))
+  where
+    found : Reply RangeAnswer
+    found = ranging (view_of (history_from ws))
+
+    go : (a : AllYes (generator_question12 ws ∷ []) ⊎ ((n : ℕ) × FirstNo (generator_question12 ws ∷ []) n))
+        → ⊎_elim (λ _. range_number found) (λ f. minus f.0) a ≡ range_number (⊎_elim (λ _. found) (λ f. refusal f.0) a)
+    go (inl ys) = refl
+    go (inr f) = refl
 
 -- ---- as many as both lists have
 take-shorter : (xs : List ℕ) (n m : ℕ) → n ≡ min (length xs) m → take n xs ≡ take m xs

@@ -1,55 +1,31 @@
 -- Laws over plain variables for the loops of `passing`: figures made stricter, sums that grow by a count, and counts that keep the figures.
 -- Assumes nothing.
-use Rattle.laws.proofs.Base.{ℕ, suc, ◌+◌, ◌-◌, ◌^◌, ◌≤◌, ◌<◌, ◌≡◌, sym, ap, ◌∙◌, subst, Bool, true, ◌&&◌, List}
+use Rattle.laws.proofs.Base.{ℕ, suc, ◌+◌, ◌-◌, ◌≤◌, ◌<◌, ◌≡◌, sym, ap, ◌∙◌, subst, Bool, true, ◌&&◌, List}
 use Rattle.laws.proofs.Base.{add-one, arith, length, get_or, set}
-use lib.Dec.{leb}
-use lib.Signed.{le_z}
-use mir.Syntax.{w32}
-use mir.Val.{to_z}
-use mir.Facts.{to_z_pos}
 use Rattle.laws.specs.Tests.{Tells}
-use Rattle.laws.proofs.Tests.{leb_told, both_told, all_turn, tells_same}
+use Rattle.laws.proofs.Tests.{all_turn, tells_same}
 use Rattle.laws.proofs.Table.{Filled, unfilled, stored, later}
 use Rattle.curves.specs.Pairs.{figure}
 use Rattle.curves.proofs.Figures.{figure_entry}
-use Rattle.scripts.specs.Steps.{sum_limit, TurnedStrict, LaterKept, InsideAt, Grown}
+use Rattle.scripts.specs.Steps.{sum_limit, TurnedBy, LaterKept, InsideAt, Grown}
 use Rattle.scripts.proofs.Adding.{filled_entry}
 
--- ---- one window
--- Small numbers are in the order of the signed ones that have their bits.
-signed_le : (a b : ℕ) → a < 2 ^ 31 → b < 2 ^ 31 → le_z (to_z w32 a) (to_z w32 b) ≡ leb a b
-signed_le a b h k = λ i. le_z (to_z_pos w32 {n = a} h i) (to_z_pos w32 {n = b} k i)
-
-pub inside_told : (l s u : ℕ) → l ≤ sum_limit → s ≤ sum_limit + sum_limit + sum_limit → u ≤ sum_limit
-    → Tells (le_z (to_z w32 l) (to_z w32 s) && le_z (to_z w32 s) (to_z w32 u)) ((l ≤ s) × (s ≤ u))
-inside_told l s u h k m =
-    subst (λ t. Tells t ((l ≤ s) × (s ≤ u)))
-    (λ i. sym (signed_le l s (omega arith) (omega arith)) i && sym (signed_le s u (omega arith) (omega arith)) i)
-    (both_told (l ≤ s) (s ≤ u) (leb l s) (leb s u) (leb_told l s) (leb_told s u))
-
 -- ---- stricter figures
-module _ (stricter : ℕ → ℕ → ℕ) (given closed : List ℕ) where
-  -- What comes to the place of the window that is the d-th from the last.
-  abbrev pub strict_from : ℕ → ℕ
-  strict_from d = stricter (get_or given (length given - d) 0) (get_or closed (length given - d) 0)
+-- What stands at each place is at each number of ticks, by the figures of that window.
+pub turned_by : (R : ℕ → ℕ → ℕ → Type 0) (given closed strict : List ℕ) → length given ≤ length strict
+    → ((k : ℕ) → k < length given → R (get_or given (length given - 1 - k) 0) (get_or closed (length given - 1 - k) 0) (get_or strict k 0))
+    → TurnedBy R given closed strict
+turned_by R given closed strict l h = record { room = l; entry = at }
+  where
+    at : (d : ℕ) → 1 ≤ d → d ≤ length given → R (figure 0 given d) (figure 0 closed d) (get_or strict (length given - d) 0)
+    at d u v =
+        let e : length given - 1 - (length given - d) ≡ d - 1 = omega arith in
+        rw (← figure_entry 0 given d u, ← figure_entry 0 closed d u) (rw e at (h (length given - d) (omega arith)))
 
-  -- The same by the place.
-  pub strict_from_lem : (i : ℕ) → stricter (get_or given (length given - 1 - i) 0) (get_or closed (length given - 1 - i) 0) ≡ strict_from (i + 1)
-  strict_from_lem i =
-      let e : length given - 1 - i ≡ length given - (i + 1) = omega arith in
-      ap (λ k. stricter (get_or given k 0) (get_or closed k 0)) e
-
-  pub strict_all : (found strict : List ℕ) (n : ℕ) → n ≡ length given → n ≤ length strict → Filled strict_from found strict n
-      → TurnedStrict stricter given closed strict
-  strict_all found strict n e l t = record { room = omega arith; entry = at }
-    where
-      at : (d : ℕ) → 1 ≤ d → d ≤ length given
-          → get_or strict (length given - d) 0 ≡ stricter (figure 0 given d) (figure 0 closed d)
-      at d u v =
-          let k : length given - suc (length given - d) ≡ d - 1 = omega arith in
-          filled_entry t (length given - d) (omega arith)
-          ∙ ap (λ j. stricter (get_or given j 0) (get_or closed j 0)) k
-          ∙ (λ i. stricter (figure_entry 0 given d u i) (figure_entry 0 closed d u i))
+-- What is made of two figures is known by another word.
+pub turned_as : (R S : ℕ → ℕ → ℕ → Type 0) (given closed strict : List ℕ) → ((x y z : ℕ) → R x y z → S x y z)
+    → TurnedBy R given closed strict → TurnedBy S given closed strict
+turned_as R S given closed strict f t = record { room = t.room; entry = λ d u v. f _ _ _ (t.entry d u v) }
 
 -- ---- sums that grow
 module _ (sums ceilings leasts : List ℕ) (x : ℕ) where

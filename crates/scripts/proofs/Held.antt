@@ -1,31 +1,31 @@
 -- The held ticks after counts that pass, and after counts that are sent: the last of all. Assumes nothing.
-use Rattle.laws.proofs.Base.{ℕ, zero, suc, ◌+◌, ◌-◌, ◌≤◌, ◌<◌, ◌≡◌, refl, sym, ap, ◌∙◌, Bool, true, false, List, [], ◌∷◌, ◌++◌, map, arith}
-use Rattle.laws.proofs.Base.{append_assoc, append-nil, dec_lt, length, get_or, set, sets, take, drop, replicate, length-drop, ext_get_or}
+use Rattle.laws.proofs.Base.{ℕ, zero, suc, ◌+◌, ◌-◌, ◌≤◌, ◌<◌, ◌≡◌, refl, sym, ap, ◌∙◌, false, List, [], ◌∷◌, ◌++◌, map, arith}
+use Rattle.laws.proofs.Base.{append_assoc, append-nil, dec_lt, length, get_or, set, take, drop, replicate, length-drop, ext_get_or}
 use Rattle.laws.proofs.Base.{take_all}
-use Rattle.laws.proofs.Base.{length-take-le, length-replicate, drop_of_length-le, lt-ltb}
-use lib.ListN.{take-append-drop, length-map}
-use lib.Seq.{set-get_or, get_or-set_same}
+use Rattle.laws.proofs.Base.{length-take-le, length-replicate}
+use lib.ListN.{take-append-drop}
+use lib.Seq.{set-get_or}
+use borrow.Author.Tests.{ltb-false}
 use Rattle.laws.specs.Writing.{over}
 use Rattle.curves.specs.Pairs.{horizon}
 use Rattle.curves.specs.Unlimited.{curves_of}
 use Rattle.curves.specs.Ticks.{then, newest, passed}
-use Rattle.curves.specs.Questions.{Reply, result, refusal}
-use Rattle.curves.proofs.Asked.{same_result, no_refusal}
+use Rattle.curves.specs.Questions.{Reply, result}
 use Rattle.curves.proofs.Verdicts.{then_newest, newest_newest}
-use Rattle.history.specs.States.{View, entries, view_of, added, Legal}
+use Rattle.history.specs.States.{View, view_of, added, Legal}
 use Rattle.history.proofs.Histories.{Sizes, legal_sizes, horizon_seen, held_seen}
 use Rattle.monitor.specs.Monitoring.{MonitorView, monitor_view, monitor_view_of, Ruling, judged, judging, LegalMonitor}
 use Rattle.monitor.specs.Calls.{monitor_after, after_tick, after_ticks, rulings}
 use Rattle.generator.specs.Generating.{sending}
 use Rattle.generator.specs.Calls.{view_after, sendings, after_sendings}
 use Rattle.scripts.specs.Codes.{ruling_code, sending_code}
-use Rattle.scripts.specs.Words.{mark_from, word, part, history_from, monitor_from, LegalMonitorWords, LegalGeneratorWords}
+use Rattle.scripts.specs.Words.{mark_from, word, history_from, monitor_from, LegalMonitorWords, LegalGeneratorWords}
 use Rattle.scripts.specs.Words.{generator_words}
 use Rattle.scripts.specs.Words.{with_held, failed_word, monitor_left}
 use Rattle.scripts.specs.Steps.{PassesFirst, SendsFirst}
 use Rattle.scripts.specs.Runs.{held_after, JudgedFirst, SentFirst}
-use Rattle.scripts.proofs.Worded.{part_entries, part_at, sets_inside, held_before, held_after_lem, held-length, held_number}
-use Rattle.scripts.proofs.Running.{codes, sends, over_none}
+use Rattle.scripts.proofs.Worded.{part_entries, part_at, sets_inside, held_before, held_after_lem, held-length}
+use Rattle.scripts.proofs.Running.{codes, over_none}
 
 -- A view whose held ticks are the last of xs, as many as its pair can use.
 abbrev lasting : View → List ℕ → View
@@ -154,12 +154,15 @@ module _ (ws : List ℕ) (l : LegalMonitorWords ws) where
   unfolding rulings after_ticks
   none_judged xs vs = record { within = omega arith; state = sym left_same; verdicts = over_none vs }
 
-  module _ (unset : word 1_283 ws ≡ 0) (xs vs : List ℕ) (n : ℕ) (p : PassesFirst shown xs n) where
+  module _ (clear : false ≡ mark_from (word 1_283 ws)) (xs vs : List ℕ) (n : ℕ) (p : PassesFirst shown xs n) where
+    unset : word 1_283 ws ≡ 0
+    unset = omega (arith, ltb-false 0 (word 1_283 ws) (sym clear))
+
     all_pass : rulings shown (take n xs) ≡ replicate (length (take n xs)) (result (judged passed))
     all_pass = p.1 ∙ ap (λ k. replicate k (result (judged passed))) (sym (length-take-le n xs p.0))
 
     not_failed : shown.failed ≡ false
-    not_failed = ap mark_from unset
+    not_failed = sym clear
 
     left_is : monitor_left ws (after_ticks shown (take n xs)) ≡ with_held ws (held_after ws (take n xs))
     left_is =

@@ -1,5 +1,5 @@
 -- Lists of ticks in pieces are one list. Assumes nothing.
-use Rattle.laws.proofs.Base.{ℕ, ◌+◌, ◌≤◌, ◌≡◌, refl, sym, ap, ◌∙◌, subst, subst⁻¹, List, [], ◌∷◌, ◌++◌, ◌⊎◌, inl, inr, ⊎_elim, arith}
+use Rattle.laws.proofs.Base.{ℕ, ◌+◌, ◌≡◌, sym, ap, ◌∙◌, List, [], ◌∷◌, ◌++◌, ◌⊎◌, inl, inr, ⊎_elim, arith}
 use Rattle.laws.proofs.Base.{append_assoc, append-nil, length, take, drop, length-append, take_all, drop_of_length-le}
 use lib.IntN.{ℤ}
 use lib.Seq.{take-append-add, drop-append-add, drop-nil}

@@ -1,13 +1,11 @@
 -- Laws over plain variables for the loop over the counts: what it knows before each, and what a count that keeps the figures adds to it.
 -- Assumes nothing.
-use Rattle.laws.proofs.Base.{ℕ, zero, suc, ◌+◌, ◌-◌, ◌≤◌, ◌<◌, ◌≡◌, refl, sym, ap, ◌∙◌, subst, Bool, true, false, List, ◌++◌}
+use Rattle.laws.proofs.Base.{ℕ, zero, suc, ◌+◌, ◌-◌, ◌≤◌, ◌<◌, ◌≡◌, refl, sym, ap, ◌∙◌, subst, true, List, ◌++◌}
 use Rattle.laws.proofs.Base.{append_assoc, append-nil, add-one, below_more, dec_lt, drop_of_length-le, arith}
 use Rattle.laws.proofs.Base.{length, get_or, take, drop, length-append, length-drop, get_or-drop, length-take-le, take-suc, take_all}
 use Rattle.laws.proofs.Base.{list_get_or-append}
-use mathlib.Core.Bool.{not}
 use lib.Seq.{get_or-append-add, take-add}
 use borrow.Rule.Slice.PartMut.{put_mid, post_of, same_len_mid}
-use Rattle.laws.proofs.Tests.{told_yes}
 use Rattle.curves.specs.Ticks.{then, last}
 use Rattle.curves.proofs.NextTick.{last_none, length-then, last_next}
 use Rattle.scripts.specs.Steps.{sum_limit, KeptSums, Kept, LaterKept, Placed, InsideAt, Grown, KeepsTurned, KeepFirst, KeepOn}
@@ -92,8 +90,8 @@ module _ (sums ceilings leasts xs : List ℕ) (P : Placed sums ceilings leasts) 
       )
 
   -- They have grown, and are within.
-  module _ (held : k ≤ length xs) (x : ℕ) (grown : List ℕ) (r : Bool)
-      (G : Grown (part first sums) (part first ceilings) (part first leasts) x grown r) (within : not r ≡ false) where
+  module _ (held : k ≤ length xs) (x : ℕ) (grown : List ℕ)
+      (G : Grown (part first sums) (part first ceilings) (part first leasts) x grown true) where
     abbrev left : List ℕ
     left = put_mid first (length sums - first) sums grown
 
@@ -126,8 +124,7 @@ module _ (sums ceilings leasts xs : List ℕ) (P : Placed sums ceilings leasts) 
     -- It is within its figures, at the place j.
     grown_keeps : (d i j : ℕ) → i + d ≡ k → first + i ≡ j → (get_or leasts j 0 ≤ last ys (suc d)) × (last ys (suc d) ≤ get_or ceilings j 0)
     grown_keeps d i j e s =
-        let inside : InsideAt grown (part first ceilings) (part first leasts) i =
-        told_yes _ r within G.told i (omega (arith, windows)) in
+        let inside : InsideAt grown (part first ceilings) (part first leasts) i = G.told i (omega (arith, windows)) in
         let u = part_at first ceilings i j s in
         let l = part_at first leasts i j s in
         let is = grown_is d i e in
@@ -194,15 +191,6 @@ module _ (ceilings leasts xs counts : List ℕ) where
       subst (λ us. KeptSums us k' sums) e
       (record { sum_is = λ d m. K.sum_is d (omega arith); small = λ d m. K.small d (omega arith) })
 
-  pub passing_none : length xs < length ceilings → (sums : List ℕ) → KeptSums xs (length xs) sums → Passing sums
-      (length ceilings - 1 - length xs) 0
-  passing_none fewer sums K =
-      record {
-        place = omega arith;
-        sums_kept = kept_to xs (before 0) sums (length xs) _ (sym (append-nil xs)) (omega arith) K;
-        keeps = λ k l. absurd (omega arith);
-      }
-
   module _ (some : 1 ≤ length ceilings) {sums : List ℕ} {first i : ℕ} (p : Passing sums first i) (P : Placed sums ceilings leasts)
       (l : i < length counts) where
     here : first + suc (behind first) ≡ length ceilings
@@ -214,8 +202,8 @@ module _ (ceilings leasts xs counts : List ℕ) where
     pub passing_later : LaterKept (part first sums)
     passing_later = part_later sums ceilings leasts (before i) P first (behind first) here p.sums_kept
 
-    module _ (grown : List ℕ) (r : Bool)
-        (G : Grown (part first sums) (part first ceilings) (part first leasts) (get_or counts i 0) grown r) (within : not r ≡ false) where
+    module _ (grown : List ℕ)
+        (G : Grown (part first sums) (part first ceilings) (part first leasts) (get_or counts i 0) grown true) where
       held : behind first ≤ length (before i)
       held = omega (arith, p.place, before-length i (omega arith))
 
@@ -224,7 +212,7 @@ module _ (ceilings leasts xs counts : List ℕ) where
 
       pub passing_length : length (put_mid first (length sums - first) sums grown) ≡ length sums
       passing_length =
-          left_length sums ceilings leasts (before i) P first (behind first) here p.sums_kept held (get_or counts i 0) grown r G within
+          left_length sums ceilings leasts (before i) P first (behind first) here p.sums_kept held (get_or counts i 0) grown G
 
       pub passing_more : (next : ℕ) → next ≡ first - 1 → Passing (put_mid first (length sums - first) sums grown) next (i + 1)
       passing_more next e =
@@ -232,13 +220,11 @@ module _ (ceilings leasts xs counts : List ℕ) where
             place = omega (arith, p.place);
             sums_kept =
                 kept_to _ _ _ _ _ on (omega arith)
-                (next_kept sums ceilings leasts (before i) P first (behind first) here p.sums_kept held (get_or counts i 0) grown r G
-                within);
+                (next_kept sums ceilings leasts (before i) P first (behind first) here p.sums_kept held (get_or counts i 0) grown G);
             keeps =
                 below_more (λ k. KeepsTurned ceilings leasts (before (suc k))) i p.keeps
                 (subst (KeepsTurned ceilings leasts) (before_next i l)
-                (next_keeps sums ceilings leasts (before i) P first (behind first) here p.sums_kept held (get_or counts i 0) grown r G
-                within
+                (next_keeps sums ceilings leasts (before i) P first (behind first) here p.sums_kept held (get_or counts i 0) grown G
                 none_longer));
           }
         where
@@ -246,19 +232,11 @@ module _ (ceilings leasts xs counts : List ℕ) where
           on = before_next i l ∙ ap before (sym (add-one i))
 
   -- ---- all windows are judged: what grows are the sums themselves
-  pub passing_on : (sums : List ℕ) → length ceilings ≤ length xs + 1 → KeptSums xs (length ceilings - 1) sums → Passing sums 0 0
-  passing_on sums long K =
-      record {
-        place = omega arith;
-        sums_kept = kept_to xs (before 0) sums (length ceilings - 1) _ (sym (append-nil xs)) (omega arith) K;
-        keeps = λ k l. absurd (omega arith);
-      }
-
   pub passing_grown : 1 ≤ length ceilings → (sums : List ℕ) (i : ℕ) → Passing sums 0 i → Placed sums ceilings leasts → i < length counts
       → (grown : List ℕ) → Grown sums ceilings leasts (get_or counts i 0) grown true → Passing grown 0 (i + 1)
   passing_grown some sums i p P l grown G =
       subst (λ us. Passing us 0 (i + 1)) (put_whole sums grown G.whole)
-      (passing_more some p P l grown true (rw (part_none sums, part_none ceilings, part_none leasts) G) refl 0 refl)
+      (passing_more some p P l grown (rw (part_none sums, part_none ceilings, part_none leasts) G) 0 refl)
 
   -- From there on the rest of the counts is gone through by the sums alone.
   module _ (sums : List ℕ) (i : ℕ) (p : Passing sums 0 i) where
@@ -291,3 +269,24 @@ module _ (ceilings leasts xs counts : List ℕ) where
                   subst (λ j. KeepsTurned ceilings leasts (before (suc j))) e
                   (subst (KeepsTurned ceilings leasts) (rest_is (k - i)) (rest.1 (k - i) (omega arith)))
             ]
+
+-- ---- after any ticks that have the sums at first
+module _ (ceilings leasts first counts : List ℕ) where
+  -- The first i counts keep the figures, and the sums are those of the ticks and these counts.
+  abbrev pub PassingOn : List ℕ → ℕ → Type 0
+  PassingOn sums i =
+      (xs : List ℕ) → length ceilings ≤ length xs + 1 → KeptSums xs (length ceilings - 1) first → Passing ceilings leasts xs counts sums 0 i
+
+  module _ (some : 1 ≤ length ceilings) (sums : List ℕ) (i : ℕ) (P : Placed sums ceilings leasts) (p : PassingOn sums i) where
+    pub on_more : i < length counts → (grown : List ℕ) → Grown sums ceilings leasts (get_or counts i 0) grown true → PassingOn grown (i + 1)
+    on_more l grown G xs long K = passing_grown ceilings leasts xs counts some sums i (p xs long K) P l grown G
+
+    pub on_twice : i + 1 < length counts → LaterKept sums → (grown middle : List ℕ)
+        → Grown sums ceilings leasts (get_or counts i 0) middle true → Grown middle ceilings leasts (get_or counts (i + 1) 0) grown true
+        → LaterKept grown × PassingOn grown (i + 1 + 1)
+    on_twice l K grown middle G H =
+        let Q : Placed middle ceilings leasts = placed_same sums middle ceilings leasts G.whole P in (
+          later_grown middle ceilings leasts _ grown Q (later_grown sums ceilings leasts _ middle P K G) H,
+          λ xs long k.
+              passing_grown ceilings leasts xs counts some middle (i + 1) (on_more (omega arith) middle G xs long k) Q l grown H,
+        )

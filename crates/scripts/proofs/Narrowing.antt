@@ -1,33 +1,16 @@
 -- Laws over plain variables for the limits that windows leave of the next tick's count, and for a tick that is entered.
 -- Assumes nothing.
-use Rattle.laws.proofs.Base.{ℕ, zero, suc, ◌+◌, ◌-◌, ◌≤◌, ◌<◌, min, max, ◌≡◌, refl, sym, ap, ◌∙◌, true, false, List, ◌++◌, ◌↔◌}
+use Rattle.laws.proofs.Base.{ℕ, zero, suc, ◌+◌, ◌-◌, ◌≤◌, ◌<◌, min, max, ◌≡◌, refl, sym, ap, ◌∙◌, List, ◌++◌, ◌↔◌}
 use Rattle.laws.proofs.Base.{add-one, arith, below_none, below_more, length, get_or, take, drop, length-drop, get_or-drop}
 use Rattle.laws.proofs.Base.{list_get_or-append, length-take-le}
 use lib.ListN.{length-take}
 use lib.Seq.{get_or-take, get_or-append-add}
-use lib.Dec.{ltb}
-use lib.Signed.{lt_z}
-use mir.Syntax.{w32}
-use mir.Val.{to_z}
-use mir.Facts.{to_z_pos}
-use borrow.Author.Tests.{ltb-true, ltb-false}
 use borrow.Rule.Slice.PartMut.{put_mid, post_of, same_len_mid}
 use Rattle.laws.proofs.Table.{Filled, later}
 use Rattle.curves.specs.Ticks.{then, last}
 use Rattle.curves.proofs.NextTick.{last_none, last_parts, length-then, last_next}
 use Rattle.scripts.specs.Steps.{sum_limit, KeptSums, Signed, Raised, FiguresRaised, Narrowed, Ready, Entering, Entered}
 use Rattle.scripts.proofs.Adding.{filled_entry}
-
--- ---- numbers compared as signed ones
-module _ (a b : ℕ) (s : Signed a × Signed b) where
-  reads : lt_z (to_z w32 a) (to_z w32 b) ≡ ltb a b
-  reads = λ i. lt_z (to_z_pos w32 {n = a} s.0 i) (to_z_pos w32 {n = b} s.1 i)
-
-  pub signed_less : lt_z (to_z w32 a) (to_z w32 b) ≡ true → a < b
-  signed_less e = ltb-true a b (sym reads ∙ e)
-
-  pub signed_not_less : lt_z (to_z w32 a) (to_z w32 b) ≡ false → b ≤ a
-  signed_not_less e = omega (arith, ltb-false a b (sym reads ∙ e))
 
 -- ---- limits, window after window
 module _ (u l s : ℕ → ℕ) (lo₀ hi₀ : ℕ) where
@@ -135,17 +118,27 @@ module _ (cs ls xs sums : List ℕ) (some : 1 ≤ length cs) (more : length sums
 
   -- The turn j of the loop over all windows is for that of j + 2 ticks.
   abbrev pub longer_at : List ℕ → ℕ → ℕ
-  longer_at figures j = get_or figures (h - 1 - (j + 1)) 0
+  longer_at figures j = get_or figures (h - 2 - j) 0
 
   abbrev pub sum_of : ℕ → ℕ
-  sum_of j = get_or sums (h - (j + 1)) 0
+  sum_of j = get_or sums (h - 1 - j) 0
+
+  longer_at_lem : (figures : List ℕ) (j : ℕ) → longer_at figures j ≡ figure_of h figures (suc j)
+  longer_at_lem figures j = let e : h - 2 - j ≡ h - 1 - suc j = omega arith in ap (λ i. get_or figures i 0) e
 
   sum_of_lem : (k : ℕ) → KeptSums xs k sums → (j : ℕ) → j < k → sum_of j ≡ last xs (suc j)
   sum_of_lem k K j q =
-      let e : h - (j + 1) ≡ length sums - 1 - suc j = omega arith in ap (λ i. get_or sums i 0) e ∙ K.sum_is (suc j) q
+      let e : h - 1 - j ≡ length sums - 1 - suc j = omega arith in ap (λ i. get_or sums i 0) e ∙ K.sum_is (suc j) q
 
   pub sum_small : (k : ℕ) → KeptSums xs k sums → (j : ℕ) → j < k → sum_of j ≤ sum_limit
   sum_small k K j q = omega (arith, sum_of_lem k K j q, K.small (suc j) q)
+
+  pub ready_turn : (k lo hi : ℕ) → KeptSums xs k sums → FiguresRaised cs ls → (d : ℕ)
+      → Narrowed (longer_at cs) (longer_at ls) sum_of (get_or ls (h - 1) 0) (get_or cs (h - 1) 0) d lo hi → d < k
+      → Turn (sum_of d) (longer_at ls d) (longer_at cs d) lo hi
+  ready_turn k lo hi K F d N l =
+      turn_at _ _ _ _ _ d _ _ N (F.leasts_raised (h - 1) (omega arith)).1 (F.ceilings_raised (h - 1) (omega arith)).1
+      (λ j q. F.leasts_raised (h - 2 - j) (omega arith)) (F.ceilings_raised (h - 2 - d) (omega arith)) (sum_small k K d l)
 
   pub ready_first : (lo hi : ℕ) → length xs < length cs → KeptSums xs (length xs) sums
       → Narrowed (longer_at cs) (longer_at ls) sum_of (get_or ls (h - 1) 0) (get_or cs (h - 1) 0) (length xs) lo hi
@@ -169,8 +162,8 @@ module _ (cs ls xs sums : List ℕ) (some : 1 ≤ length cs) (more : length sums
           record {
             among = q;
             back = refl;
-            ceiling = ap (figure_of h cs) (add-one j);
-            least = ap (figure_of h ls) (add-one j);
+            ceiling = longer_at_lem cs j;
+            least = longer_at_lem ls j;
             sum = sum_of_lem (length xs) K j q;
           }
 
@@ -195,6 +188,19 @@ module _ (cs ls xs sums : List ℕ) (k lo hi : ℕ) (F : FiguresRaised cs ls) (Y
   sum_of_all_small first l e = omega (arith, sum_of_all first l e, Y.kept.small k (omega arith))
 
 -- ---- a tick is entered
+-- The sum that a turn reads is still as found.
+pub sum_found : (sums grown : List ℕ) (x i : ℕ) → Filled (λ d. get_or sums d 0 + x) sums grown i
+    → get_or grown (i + 1) 0 + x ≡ get_or sums (i + 1) 0 + x
+sum_found sums grown x i t = ap (λ s. s + x) (later t (i + 1) (omega arith))
+
+-- And so what is known in the turn.
+pub entering_turn : (sums grown cs ls : List ℕ) (x lo₀ hi₀ lo hi i : ℕ) → Filled (λ d. get_or sums d 0 + x) sums grown i
+    → Narrowed (λ j. get_or cs j 0) (λ j. get_or ls j 0) (λ j. get_or sums (j + 1) 0 + x) lo₀ hi₀ i lo hi
+    → Entering sums cs ls x lo₀ hi₀ → i < length cs → Turn (get_or grown (i + 1) 0 + x) (get_or ls i 0) (get_or cs i 0) lo hi
+entering_turn sums grown cs ls x lo₀ hi₀ lo hi i t N E l =
+    rw (sum_found sums grown x i t)
+    (turn_at _ _ _ _ _ i _ _ N E.lo_signed E.hi_signed (λ j q. E.leasts_raised j (omega arith)) (E.ceilings_raised i l) (E.small i l))
+
 -- The part of a list from the place s on, n entries long.
 part_at : (s n : ℕ) (xs : List ℕ) (j : ℕ) → j < n → get_or (take n (drop s xs)) j 0 ≡ get_or xs (s + j) 0
 part_at s n xs j q = get_or-take n (drop s xs) j 0 q ∙ get_or-drop s xs j 0

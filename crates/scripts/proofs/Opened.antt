@@ -1,31 +1,33 @@
 -- The words that an opening writes, one field behind the other. Assumes nothing.
-use Rattle.laws.proofs.Base.{ℕ, suc, ◌+◌, ◌-◌, ◌≤◌, ◌<◌, ◌≡◌, refl, sym, ap, ◌∙◌, subst, Bool, true, false, List, [], ◌∷◌, ◌++◌, arith}
+use Rattle.laws.proofs.Base.{ℕ, suc, ◌+◌, ◌-◌, ◌≤◌, ◌<◌, ◌≡◌, refl, sym, ap, ◌∙◌, Bool, true, false, List, [], ◌∷◌, ◌++◌, arith}
 use Rattle.laws.proofs.Base.{append_assoc, append-nil, length, set, take, drop, replicate, length-append, length-set, length-drop}
-use Rattle.laws.proofs.Base.{length-replicate}
-use Rattle.laws.proofs.Base.{length-take-le, take_all, take_at, drop_of_length-le, inl, inr}
+use Rattle.laws.proofs.Base.{length-replicate, length-take-le, take_all, take_at, drop_of_length-le, inl}
+use Rattle.std.proofs.Common.{Result, Ok, Err, MatchResult, IsErrAnd}
+use Rattle.std.proofs.lemmas.Result.{err_from_is_err_and}
 use lib.ListN.{length-take}
 use lib.Seq.{take-suc-set}
 use borrow.Rule.Slice.PartMut.{mid_of, put_mid, same_len_mid}
+use mir.Val.{bool_byte}
 use Rattle.laws.specs.Ranges.{table}
-use Rattle.laws.specs.Writing.{over}
 use Rattle.curves.specs.Pairs.{Pair, pair_of, horizon}
-use Rattle.curves.specs.Unlimited.{AnyPair, limited, unlimited, with_mark, curves_of}
-use Rattle.curves.specs.Questions.{Question, AllYes, FirstNo, Reply, result, refusal, reply_to}
+use Rattle.curves.specs.Unlimited.{AnyPair, limited, with_mark, curves_of}
+use Rattle.curves.specs.Questions.{Question, AllYes, Reply, result, refusal, reply_to, reply_of}
 use Rattle.curves.proofs.Asked.{said_yes, said_no, yes_append, no_before, no_after, refusal_iff, result_from}
-use Rattle.bounds.specs.Bounds.{max_horizon, pair_questions}
+use Rattle.bounds.specs.Bounds.{max_horizon}
 use Rattle.closure.specs.Theorems.{closure_of, room}
-use Rattle.history.specs.States.{View, entries, view_of}
+use Rattle.history.specs.States.{entries, view_of}
 use Rattle.history.proofs.Histories.{horizon_seen}
 use Rattle.monitor.specs.declared.Monitor.{Monitor}
 use Rattle.monitor.specs.Monitoring.{MonitorView, monitor_view_of, closed_in}
-use Rattle.monitor.specs.Opening.{monitor_questions, monitor_opening, fresh_monitor, MonitorBegun}
+use Rattle.monitor.specs.Opening.{monitor_questions, monitor_opening, fresh_monitor}
 use Rattle.generator.specs.Opening.{generator_questions, generator_opening}
-use Rattle.scripts.specs.Codes.{reply_number}
+use Rattle.scripts.specs.declared.OpenRefusal.{OpenRefusal}
+use Rattle.scripts.specs.declared.OpenRefusal.TheVariants.{Refused}
+use Rattle.scripts.specs.Answers.{opening_number}
 use Rattle.scripts.specs.Words.{mark_word, generator_words, monitor_words, length_question, padded, opened_words, closed_words}
 use Rattle.scripts.specs.Words.{opened_monitor_words}
-use Rattle.scripts.specs.Scripts.{Opened, opened, opened_into, monitor_opened, generator_opened}
+use Rattle.scripts.specs.Scripts.{opened, opened_into, monitor_opened, generator_opened}
 use Rattle.scripts.specs.Runs.{shown, closed_from}
-use Rattle.scripts.proofs.Coded.{monitor_opening_numbered, generator_opening_numbered}
 
 -- ---- what is known of the front of a list, when more is put behind it
 front_put : (l p fs : List ℕ) (a k : ℕ) → take a l ≡ fs → a ≤ length l → length p ≡ k → take (a + k) (put_mid a k l p) ≡ fs ++ p
@@ -46,65 +48,51 @@ padded-length us h =
     length-append us (replicate (max_horizon - length us) 0)
     ∙ ap (λ n. length us + n) (length-replicate (max_horizon - length us) 0) ∙ omega arith
 
--- ---- figures
-pub figures_written : (us places left rest : List ℕ) → length places ≡ 256 → length us ≤ 256 → left ≡ over us places
-    → rest ≡ replicate (length (mid_of (length us) (length left - length us) left)) 0
-    → put_mid (length us) (length left - length us) left rest ≡ padded us
-figures_written us places left rest n h e r =
-    (λ i. front i ++ (rest ++ none i)) ∙ ap (λ t. us ++ t) (append-nil rest ∙ r ∙ ap (λ k. replicate k 0) many)
-  where
-    split : left ≡ us ++ drop (length us) places
-    split = e ∙ ap (λ t. t ++ drop (length us) places) (take_all (length places) us (omega arith))
-
-    long : length left ≡ 256
-    long = ap length split ∙ length-append us (drop (length us) places) ∙ omega (arith, length-drop (length us) places)
-
-    front : take (length us) left ≡ us
-    front = ap (take (length us)) split ∙ take_at us (drop (length us) places) (length us) refl
-
-    none : drop (length left - length us) (drop (length us) left) ≡ []
-    none = drop_of_length-le (drop (length us) left) {i = length left - length us} (omega (arith, length-drop (length us) left))
-
-    many : length (mid_of (length us) (length left - length us) left) ≡ max_horizon - length us
-    many =
-        length-take-le (length left - length us) (drop (length us) left) (omega (arith, length-drop (length us) left))
-        ∙ ap (λ k. k - length us) long
-
 -- ---- a pair
-module _ (ws : List ℕ) (h m : ℕ) (long : length ws ≡ 771) where
-  abbrev pub numbers : List ℕ
+module _ (ws : List ℕ) (h m : ℕ) (long : length ws ≡ 771) (pu pl z : List ℕ) (e : length pu ≡ 256) (f : length pl ≡ 256) where
+  abbrev numbers : List ℕ
   numbers = set (set ws 0 h) 1 m
 
-  pub numbers_length : length numbers ≡ 771
+  numbers_length : length numbers ≡ 771
   numbers_length = length-set (set ws 0 h) 1 m ∙ length-set ws 0 h ∙ long
 
-  module _ (pu : List ℕ) (e : length pu ≡ 256) where
-    abbrev pub uppers : List ℕ
-    uppers = put_mid 2 256 numbers pu
+  abbrev uppers : List ℕ
+  uppers = put_mid 2 256 numbers pu
 
-    pub uppers-length : length uppers ≡ 771
-    uppers-length = put-length numbers pu 2 256 (omega (arith, numbers_length)) e ∙ numbers_length
+  uppers-length : length uppers ≡ 771
+  uppers-length = put-length numbers pu 2 256 (omega (arith, numbers_length)) e ∙ numbers_length
 
-    module _ (pl : List ℕ) (f : length pl ≡ 256) where
-      abbrev pub lowers : List ℕ
-      lowers = put_mid 258 256 uppers pl
+  abbrev pub lowers : List ℕ
+  lowers = put_mid 258 256 uppers pl
 
-      pub lowers-length : length lowers ≡ 771
-      lowers-length = put-length uppers pl 258 256 (omega (arith, uppers-length)) f ∙ uppers-length
+  lowers-length : length lowers ≡ 771
+  lowers-length = put-length uppers pl 258 256 (omega (arith, uppers-length)) f ∙ uppers-length
 
-      module _ (z : List ℕ) (g : length z ≡ 257) where
-        pub pair-length : length (put_mid 514 257 lowers z) ≡ 771
-        pair-length = put-length lowers z 514 257 (omega (arith, lowers-length)) g ∙ lowers-length
+  -- The rest is 0.
+  abbrev pub rest_of_all : List ℕ
+  rest_of_all = take (length lowers - 514) (drop 514 lowers)
 
-        pub pair_written : put_mid 514 257 lowers z ≡ h ∷ m ∷ (pu ++ (pl ++ z))
-        pair_written =
-            let two : take 2 numbers ≡ h ∷ m ∷ [] =
-            front-set (set ws 0 h) (h ∷ []) 1 m (front-set ws [] 0 h refl (omega arith)) (omega (arith, length-set ws 0 h)) in
-            let one = front_put numbers pu (h ∷ m ∷ []) 2 256 two (omega (arith, numbers_length)) e in
-            let both = front_put uppers pl ((h ∷ m ∷ []) ++ pu) 258 256 one (omega (arith, uppers-length)) f in
-            let all = front_put lowers z (((h ∷ m ∷ []) ++ pu) ++ pl) 514 257 both (omega (arith, lowers-length)) g in
-            sym (take_all 771 (put_mid 514 257 lowers z) (omega (arith, pair-length))) ∙ all
-            ∙ append_assoc (h ∷ m ∷ pu) pl z
+  pub pair_written : z ≡ replicate (length rest_of_all) 0
+      → put_mid 514 (length lowers - 514) lowers z ≡ h ∷ m ∷ (pu ++ (pl ++ replicate 257 0))
+  pair_written zeros =
+      let k : length lowers - 514 ≡ 257 = omega (arith, lowers-length) in
+      let l : length rest_of_all ≡ 257 =
+      length-take-le (length lowers - 514) (drop 514 lowers) (omega (arith, length-drop 514 lowers)) ∙ k in
+      let g : length z ≡ 257 = ap length zeros ∙ length-replicate {A = ℕ} (length rest_of_all) 0 ∙ l in
+      let two : take 2 numbers ≡ h ∷ m ∷ [] =
+      front-set (set ws 0 h) (h ∷ []) 1 m (front-set ws [] 0 h refl (omega arith)) (omega (arith, length-set ws 0 h)) in
+      let one = front_put numbers pu (h ∷ m ∷ []) 2 256 two (omega (arith, numbers_length)) e in
+      let both = front_put uppers pl ((h ∷ m ∷ []) ++ pu) 258 256 one (omega (arith, uppers-length)) f in
+      let all = front_put lowers z (((h ∷ m ∷ []) ++ pu) ++ pl) 514 257 both (omega (arith, lowers-length)) g in
+      ap (λ n. put_mid 514 n lowers z) k
+      ∙ sym (take_all 771 (put_mid 514 257 lowers z) (omega (arith, put-length lowers z 514 257 (omega (arith, lowers-length)) g, lowers-length)))
+      ∙ all ∙ append_assoc (h ∷ m ∷ pu) pl z
+      ∙ ap (λ t. h ∷ m ∷ (pu ++ (pl ++ t))) (zeros ∙ ap (λ n. replicate n 0) l)
+
+-- The mark is a number as the library has it.
+pub mark_written : (b : Bool) → bool_byte b ≡ mark_word b
+mark_written true = refl
+mark_written false = refl
 
 pub shown_few : (h : ℕ) (b : Bool) (n : ℕ) → n ≡ shown h b → n ≤ h
 shown_few h true n e = omega arith
@@ -128,11 +116,6 @@ closed_written ws pu pl n e f =
     sym (take_all 513 (set (put_mid 256 256 (pu ++ drop 256 ws) pl) 512 0)
     (omega (arith, length-set (put_mid 256 256 (pu ++ drop 256 ws) pl) 512 0, mid)))
     ∙ all ∙ append_assoc pu pl (0 ∷ [])
-
-pub closed-length : (us ls : List ℕ) → length us ≤ 256 → length ls ≤ 256 → length (padded us ++ (padded ls ++ (0 ∷ []))) ≡ 513
-closed-length us ls h k =
-    length-append (padded us) (padded ls ++ (0 ∷ []))
-    ∙ (λ i. padded-length us h i + (length-append (padded ls) (0 ∷ []) ∙ (λ j. padded-length ls k j + 1)) i)
 
 -- ---- both
 pub rest_there : (ws ps : List ℕ) → length ws ≡ 1_284 → length ps ≡ 771
@@ -186,78 +169,77 @@ closed_is us ls false m is =
     windows = sym (horizon_seen m.history) ∙ ap (λ (p : AnyPair). horizon (curves_of p)) pair
 
 -- ---- the questions
-module _ (qs : List Question) (y : AllYes qs → Unit {0}) (numbered : ¬ (reply_to qs y ≡ refusal 0)) (r : ℕ)
-    (e : r ≡ reply_number (reply_to qs y)) where
-  pub asked_yes : r ≡ 0 → AllYes qs
-  asked_yes z = go (reply_to qs y) refl
-    where
-      go : (a : Reply (Unit {0})) → reply_to qs y ≡ a → AllYes qs
-      go (result tt) k = (result_from qs y tt k).0
-      go (refusal n) k = absurd (numbered (k ∙ ap refusal (sym (ap reply_number k) ∙ sym e ∙ z)))
+module _ (qs : List Question) (y : AllYes qs → Unit {0}) where
+  asked_yes : result tt ≡ reply_to qs y → AllYes qs
+  asked_yes e = (result_from qs y tt (sym e)).0
 
-  pub into_refused : (rs : List Question) (words found : List ℕ) → ¬ (r ≡ 0) → opened r found ≡ opened_into (qs ++ rs) words found
-  into_refused rs words found z = go (reply_to qs y) refl
-    where
-      go : (a : Reply (Unit {0})) → reply_to qs y ≡ a → opened r found ≡ opened_into (qs ++ rs) words found
-      go (result tt) k = absurd (z (e ∙ ap reply_number k))
-      go (refusal n) k =
-          ap (λ t. opened t found) (e ∙ ap reply_number k)
-          ∙ sym (said_no (qs ++ rs) _ _ n (no_before qs rs n ((refusal_iff qs y n).0 k)))
+  into_refused : (rs : List Question) (words found : List ℕ) (n : ℕ) → refusal n ≡ reply_to qs y
+      → opened n found ≡ opened_into (qs ++ rs) words found
+  into_refused rs words found n e = sym (said_no (qs ++ rs) _ _ n (no_before qs rs n ((refusal_iff qs y n).0 (sym e))))
 
-pub into_length : (qs : List Question) (n : ℕ) (words found : List ℕ) → AllYes qs → ¬ (length found ≡ n)
+into_length : (qs : List Question) (n : ℕ) (words found : List ℕ) → AllYes qs → ¬ (length found ≡ n)
     → opened 12 found ≡ opened_into (qs ++ (length_question n found ∷ [])) words found
 into_length qs n words found ys h = sym (said_no _ _ _ 12 (no_after qs (length_question n found ∷ []) 12 ys (inl (refl, h))))
 
-pub into_written : (qs : List Question) (n : ℕ) (words found left : List ℕ) → AllYes qs → length found ≡ n → left ≡ words
+into_written : (qs : List Question) (n : ℕ) (words found left : List ℕ) → AllYes qs → length found ≡ n → left ≡ words
     → opened 0 left ≡ opened_into (qs ++ (length_question n found ∷ [])) words found
 into_written qs n words found left ys h is =
     ap (opened 0) is ∙ sym (said_yes _ _ _ _ (yes_append qs (length_question n found ∷ []) ys (h, tt)) (λ _. refl))
 
 -- ---- the two openings
-module _ (us ls : List ℕ) (b : Bool) (r : ℕ) (found : List ℕ) where
-  abbrev p : AnyPair
-  p = with_mark us ls b
+module _ (p : AnyPair) (found : List ℕ) where
+  pub monitor_refused : (n : ℕ) → refusal n ≡ monitor_opening p → opened n found ≡ monitor_opened p found
+  unfolding monitor_opening monitor_opened
+  monitor_refused n e = into_refused (monitor_questions p) _ _ (opened_monitor_words p) found n e
 
-  module _ (e : r ≡ reply_number (monitor_opening p)) where
-    pub monitor_asked : r ≡ 0 → AllYes (monitor_questions p)
+  pub generator_refused : (n : ℕ) → refusal n ≡ generator_opening p → opened n found ≡ generator_opened p found
+  unfolding generator_opening generator_opened
+  generator_refused n e = into_refused (generator_questions p) _ _ (opened_words p) found n e
+
+  module _ (e : result tt ≡ monitor_opening p) where
+    pub monitor_asked : AllYes (monitor_questions p)
     unfolding monitor_opening
-    monitor_asked z = asked_yes (monitor_questions p) _ (monitor_opening_numbered p) r e z
+    monitor_asked = asked_yes (monitor_questions p) _ e
 
-    pub monitor_refused : ¬ (r ≡ 0) → opened r found ≡ monitor_opened p found
-    unfolding monitor_opening monitor_opened
-    monitor_refused z = into_refused (monitor_questions p) _ (monitor_opening_numbered p) r e _ (opened_monitor_words p) found z
-
-    pub monitor_long : r ≡ 0 → ¬ (length found ≡ monitor_words) → opened 12 found ≡ monitor_opened p found
+    pub monitor_long : ¬ (length found ≡ monitor_words) → opened 12 found ≡ monitor_opened p found
     unfolding monitor_opened
-    monitor_long z h = into_length (monitor_questions p) monitor_words (opened_monitor_words p) found (monitor_asked z) h
+    monitor_long h = into_length (monitor_questions p) monitor_words (opened_monitor_words p) found monitor_asked h
 
-    pub monitor_begun : r ≡ 0 → length found ≡ monitor_words → (left : List ℕ) → left ≡ opened_monitor_words p → opened 0 left ≡
-        monitor_opened p found
+    pub monitor_begun : length found ≡ monitor_words → (left : List ℕ) → left ≡ opened_monitor_words p → opened 0 left ≡ monitor_opened p found
     unfolding monitor_opened
-    monitor_begun z h left is = into_written (monitor_questions p) monitor_words (opened_monitor_words p) found left (monitor_asked z) h is
+    monitor_begun h left is = into_written (monitor_questions p) monitor_words (opened_monitor_words p) found left monitor_asked h is
 
-  module _ (e : r ≡ reply_number (generator_opening p)) where
-    pub generator_asked : r ≡ 0 → AllYes (generator_questions p)
+  module _ (e : result tt ≡ generator_opening p) where
+    pub generator_asked : AllYes (generator_questions p)
     unfolding generator_opening
-    generator_asked z = asked_yes (generator_questions p) _ (generator_opening_numbered p) r e z
+    generator_asked = asked_yes (generator_questions p) _ e
 
-    pub generator_refused : ¬ (r ≡ 0) → opened r found ≡ generator_opened p found
-    unfolding generator_opening generator_opened
-    generator_refused z = into_refused (generator_questions p) _ (generator_opening_numbered p) r e _ (opened_words p) found z
-
-    pub generator_long : r ≡ 0 → ¬ (length found ≡ generator_words) → opened 12 found ≡ generator_opened p found
+    pub generator_long : ¬ (length found ≡ generator_words) → opened 12 found ≡ generator_opened p found
     unfolding generator_opened
-    generator_long z h = into_length (generator_questions p) generator_words (opened_words p) found (generator_asked z) h
+    generator_long h = into_length (generator_questions p) generator_words (opened_words p) found generator_asked h
 
-    pub generator_begun : r ≡ 0 → length found ≡ generator_words → (left : List ℕ) → left ≡ opened_words p → opened 0 left ≡ generator_opened
-        p found
+    pub generator_begun : length found ≡ generator_words → (left : List ℕ) → left ≡ opened_words p → opened 0 left ≡ generator_opened p found
     unfolding generator_opened
-    generator_begun z h left is = into_written (generator_questions p) generator_words (opened_words p) found left (generator_asked z) h is
+    generator_begun h left is = into_written (generator_questions p) generator_words (opened_words p) found left generator_asked h is
 
--- An opening that is not refused.
-pub opened_tt : (p : AnyPair) (r : ℕ) → r ≡ reply_number (monitor_opening p) → r ≡ 0 → monitor_opening p ≡ result tt
-opened_tt p r e z = go (monitor_opening p) refl
-  where
-    go : (a : Reply (Unit {0})) → monitor_opening p ≡ a → monitor_opening p ≡ result tt
-    go (result tt) k = k
-    go (refusal n) k = absurd (monitor_opening_numbered p (k ∙ ap refusal (sym (ap reply_number k) ∙ sym e ∙ z)))
+-- ---- an opening's refusal, as the reason why the state is not opened
+abbrev passed_on : {R : Type 0} → Result (Unit {0}) R → Result (Unit {0}) (OpenRefusal R)
+passed_on (Ok u) = Ok u
+passed_on (Err e) = Err (Refused e)
+
+pub mapped_is : {R : Type 0} (post : R → OpenRefusal R → Type 0) → ((e : R) (d : OpenRefusal R) → post e d → d ≡ Refused e)
+    → (o : Result (Unit {0}) R) (r : Result (Unit {0}) (OpenRefusal R)) → MatchResult o (λ u. r ≡ Ok u) (λ e. IsErrAnd r (post e))
+    → r ≡ passed_on o
+mapped_is post is (Ok u) r h = h
+mapped_is post is (Err e) r h = let p = err_from_is_err_and r h in p.1 ∙ ap Err (is e _ p.2)
+
+pub passed_ok : {R : Type 0} (number : R → ℕ) (o : Result (Unit {0}) R) (r : Result (Unit {0}) (OpenRefusal R)) → r ≡ passed_on o
+    → (answer : Reply (Unit {0})) → reply_of (λ u. u) number o ≡ answer → (u : Unit {0}) → r ≡ Ok u → result tt ≡ answer
+passed_ok number (Ok v) r is answer told u e = told
+passed_ok number (Err f) r is answer told u e = cc
+
+pub passed_err : {R : Type 0} (number : R → ℕ) (o : Result (Unit {0}) R) (r : Result (Unit {0}) (OpenRefusal R)) → r ≡ passed_on o
+    → (answer : Reply (Unit {0})) → reply_of (λ u. u) number o ≡ answer → (d : OpenRefusal R) → r ≡ Err d
+    → refusal (opening_number number (Err d)) ≡ answer
+passed_err number (Ok v) r is answer told d e = cc
+passed_err number (Err f) r is answer told d e = let same : d ≡ Refused f = cc in rw same told

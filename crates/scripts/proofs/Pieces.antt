@@ -1,10 +1,10 @@
 -- Lists of ticks in pieces: what the ticks of two lists, one after the other, are answered, and what stays of a view after ticks.
 -- Assumes nothing.
-use Rattle.laws.proofs.Base.{ℕ, suc, ◌+◌, ◌-◌, ◌≤◌, ◌<◌, min, ◌≡◌, refl, sym, ap, ◌∙◌, subst, Bool, true, false, List, [], ◌∷◌, ◌++◌}
+use Rattle.laws.proofs.Base.{ℕ, suc, ◌-◌, ◌≤◌, ◌<◌, ◌≡◌, refl, sym, ap, ◌∙◌, subst, true, List, [], ◌∷◌, ◌++◌}
 use Rattle.laws.proofs.Base.{arith, length, le_refl}
 use Rattle.curves.specs.Pairs.{Pair, horizon}
 use Rattle.curves.specs.Unlimited.{AnyPair, curves_of, alike}
-use Rattle.curves.specs.Ticks.{then, newest, passed, too_many, too_few}
+use Rattle.curves.specs.Ticks.{then, passed, too_many, too_few}
 use Rattle.curves.specs.Questions.{Reply, result, refusal}
 use Rattle.curves.proofs.NextTick.{length-then}
 use Rattle.curves.proofs.Verdicts.{length-newest}

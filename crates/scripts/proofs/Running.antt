@@ -1,12 +1,15 @@
 -- A loop that answers the entries of a list one after the other, carrying a state, into another list. Assumes nothing.
-use Rattle.laws.proofs.Base.{ℕ, zero, suc, ◌+◌, ◌-◌, ◌≤◌, ◌<◌, ◌≡◌, true, sym, ap, ◌∙◌, List, [], ◌∷◌, ◌++◌, map, arith, append_assoc, append-nil}
-use Rattle.laws.proofs.Base.{add-one, length, get_or, set, take, drop, length-append, drop_of_length-le, length-take-le}
-use Rattle.laws.proofs.Base.{drop-cons}
-use Rattle.laws.proofs.Base.{take-suc, take_all, set_at, dec_lt}
+use Rattle.laws.proofs.Base.{ℕ, suc, ◌+◌, ◌-◌, ◌≤◌, ◌<◌, min, ◌≡◌, refl, true, sym, ap, ◌∙◌, List, [], ◌∷◌, ◌++◌, map, arith}
+use Rattle.laws.proofs.Base.{append_assoc, append-nil, add-one, length, get_or, set, take, drop, replicate, length-append, length-drop}
+use Rattle.laws.proofs.Base.{length-replicate, drop_of_length-le, length-take-le, drop-cons, take-suc, take_all, take_at, take-append_seam}
+use Rattle.laws.proofs.Base.{set_at, dec_lt, dec_le}
 use mathlib.Core.List.{map-append}
+use Rattle.std.proofs.lemmas.List.{take-replicate}
+use Rattle.std.proofs.lemmas.Slice.{drop-append-drop}
+use borrow.Rule.Slice.PartMut.{mid_of, put_mid}
 use lib.IntN.{ℤ, pos}
-use lib.ListN.{length-map}
-use lib.Seq.{set_out, take-append-le, take-nil}
+use lib.ListN.{length-map, take-append-drop}
+use lib.Seq.{set_out, take-append-le, take-nil, take-append-add, drop-drop}
 use Rattle.laws.specs.Writing.{over}
 use Rattle.laws.proofs.Copying.{over_whole}
 use Rattle.curves.specs.Margins.{Margin}
@@ -148,46 +151,134 @@ module _ (v : View) (xs : List ℕ) (i : ℕ) (l : i < length xs) (u : View) (is
       ∙ ap (after_sendings v) (rw (add-one i) (sym (take-suc xs i 0 l)))
 
 -- ---- one entry in every place from i on
-pub filled_more : {A : Type 0} (a : A) (n i : ℕ) (xs : List A) → i < n
-    → filled_from a (i + 1) (n - (i + 1)) (set xs i a) ≡ filled_from a i (n - i) xs
-unfolding filled_from
-filled_more a n i xs l =
-    let e : n - i ≡ suc (n - (i + 1)) = omega arith in
-    ap (λ k. filled_from a k (n - (i + 1)) (set xs i a)) (add-one i) ∙ sym (ap (λ k. filled_from a i k xs) e)
+module _ {A : Type 0} (a : A) (xs : List A) (i n : ℕ) where
+  -- As many as there are places for are put there at once.
+  pub filled_put : (m : ℕ) (put : List A) → i + m ≤ length xs → m ≡ min n (length xs - i) → put ≡ replicate (length (mid_of i m xs)) a
+      → put_mid i m xs put ≡ filled_from a i n xs
+  filled_put m put fits e p =
+      ap (λ t. take i xs ++ (t ++ drop m (drop i xs))) (p ∙ ap (λ k. replicate k a) many)
+      ∙ sym (append_assoc (take i xs) (replicate m a) (drop m (drop i xs)))
+      ∙ sym (λ k. front k ++ back k)
+    where
+      many : length (mid_of i m xs) ≡ m
+      many = length-take-le m (drop i xs) (omega (arith, length-drop i xs))
 
-pub filled_end : {A : Type 0} (a : A) (n i : ℕ) (xs : List A) → n ≤ i → filled_from a i (n - i) xs ≡ xs
-unfolding filled_from
-filled_end a n i xs l = let e : n - i ≡ 0 = omega arith in ap (λ k. filled_from a i k xs) e
+      head : length (take i xs) ≡ i
+      head = length-take-le i xs (omega arith)
 
--- A monitor that has failed fills both lists so: its view m stays.
-module _ (w : MonitorView) (xs : List ℕ) (m : MonitorView) (l : LegalMonitor m) (f : m.failed ≡ true) where
+      whole : length (take i xs ++ replicate n a) ≡ i + n
+      whole = length-append (take i xs) (replicate n a) ∙ (λ k. head k + length-replicate {A = A} n a k)
+
+      room : length xs ≡ length (take i xs) + (length xs - i)
+      room = omega (arith, head)
+
+      as_many : take (length xs - i) (replicate n a) ≡ replicate m a
+      as_many =
+          elim (dec_le n (length xs - i)) [
+            | yes h ↦
+                let k : m ≡ n = omega arith in
+                take_all (length xs - i) (replicate n a) (omega (arith, length-replicate {A = A} n a)) ∙ ap (λ k. replicate k a) (sym k)
+            | no h ↦
+                let k : m ≡ length xs - i = omega arith in take-replicate (length xs - i) n a (omega arith) ∙ ap (λ k. replicate k a) (sym k)
+          ]
+
+      front : take (length xs) (take i xs ++ replicate n a) ≡ take i xs ++ replicate m a
+      front =
+          ap (λ k. take k (take i xs ++ replicate n a)) room ∙ take-append-add (take i xs) (replicate n a) (length xs - i)
+          ∙ ap (λ t. take i xs ++ t) as_many
+
+      back : drop (length (take i xs ++ replicate n a)) xs ≡ drop m (drop i xs)
+      back =
+          ap (λ k. drop k xs) whole
+          ∙ elim (dec_le n (length xs - i)) [
+            | yes h ↦ let k : i + n ≡ i + m = omega arith in ap (λ k. drop k xs) k
+            | no h ↦ drop_of_length-le xs {i = i + n} (omega arith) ∙ sym (drop_of_length-le xs {i = i + m} (omega arith))
+          ]
+          ∙ sym (drop-drop m i xs)
+
+-- Answers for which there is room.
+pub over_all : {A : Type 0} (ys found : List A) (i : ℕ) → length ys ≡ i → i ≤ length found → over ys found ≡ ys ++ drop i found
+over_all ys found i e h =
+    ap (λ t. t ++ drop (length ys) found) (take_all (length found) ys (omega arith)) ∙ ap (λ k. ys ++ drop k found) e
+
+-- Put behind answers that were put over a list before, as if all of them were put over it together.
+pub over_behind : {A : Type 0} (ys zs found : List A) (i : ℕ) → length ys ≡ i
+    → over (take i (over ys found) ++ zs) (over ys found) ≡ over (ys ++ zs) found
+over_behind {A} ys zs found i e =
+    elim (dec_le i (length found)) [
+      | yes h ↦
+          let out : over ys found ≡ ys ++ drop i found = over_all ys found i e h in
+          let same : length (ys ++ drop i found) ≡ length found =
+          length-append ys (drop i found) ∙ omega (arith, length-drop i found) in
+          let behind : drop (length (ys ++ zs)) (ys ++ drop i found) ≡ drop (length (ys ++ zs)) found =
+          drop-append-drop i found ys (length (ys ++ zs)) (omega (arith, length-append ys zs)) e in
+          ap (λ t. over (take i t ++ zs) t) out
+          ∙ ap (λ t. over (t ++ zs) (ys ++ drop i found)) (take_at ys (drop i found) i e)
+          ∙ (λ j. take (same j) (ys ++ zs) ++ behind j)
+      | no h ↦
+          let few : length found ≤ length ys = omega arith in
+          let s : List A = take (length found) ys in
+          let short : length s ≡ length found = length-take-le (length found) ys few in
+          let out : over ys found ≡ s =
+          ap (λ t. s ++ t) (drop_of_length-le found {i = length ys} few) ∙ append-nil s in
+          ap (λ t. over (take i t ++ zs) t) out
+          ∙ ap (λ t. over (t ++ zs) s) (take_all i s (omega arith))
+          ∙ ap (λ t. take (length s) (s ++ zs) ++ t) (drop_of_length-le s {i = length (s ++ zs)} (omega (arith, length-append s zs)))
+          ∙ append-nil _ ∙ take-append_seam s zs
+          ∙ sym (ap (λ t. take (length found) (ys ++ zs) ++ t)
+          (drop_of_length-le found {i = length (ys ++ zs)} (omega (arith, length-append ys zs)))
+          ∙ append-nil _ ∙ take-append-le (length found) ys zs few)
+    ]
+
+-- A monitor that has failed answers so: its view m stays.
+module _ (m : MonitorView) (l : LegalMonitor m) (f : m.failed ≡ true) where
   failed_stays : (x : ℕ) → m ≡ after_tick m x
   failed_stays x = ap (λ r. monitor_after r m x) (sym (judging_failed m x l f))
 
-  failed_on : (i : ℕ) → i < length xs → m ≡ after_ticks w (take i xs) → m ≡ after_ticks w (take (i + 1) xs)
-  failed_on i h is = tick_on w xs i h m is m (failed_stays _)
+  pub failed_after : (xs : List ℕ) → m ≡ after_ticks m xs
+  unfolding after_ticks
+  failed_after [] = refl
+  failed_after (x ∷ xs) = failed_after xs ∙ ap (λ u. after_ticks u xs) (failed_stays x)
 
-  pub failed_verdicts : (n i : ℕ) → i + n ≡ length xs → m ≡ after_ticks w (take i xs) → (found out : List ℕ)
-      → out ≡ over (codes w (take i xs)) found → filled_from 3_000 i n out ≡ over (codes w xs) found
-  unfolding filled_from
-  failed_verdicts zero i e is found out h = h ∙ ap (λ t. over (codes w t) found) (take_all i xs (omega arith))
-  failed_verdicts (suc n) i e is found out h =
-      failed_verdicts n (suc i) (omega arith) (rw (add-one i) at (failed_on i (omega arith) is)) found (set out i 3_000)
-      (rw (add-one i) at (verdict_put w xs i (omega arith) m is found out 3_000 h
-      (ap ruling_code (sym (judging_failed m (get_or xs i 0) l f)))))
+  pub failed_codes : (xs : List ℕ) → codes m xs ≡ replicate (length xs) 3_000
+  unfolding rulings
+  failed_codes [] = refl
+  failed_codes (x ∷ xs) =
+      λ i. ruling_code (judging_failed m x l f i) ∷ (ap (λ u. codes u xs) (sym (failed_stays x)) ∙ failed_codes xs) i
 
-  pub failed_margins : (n i : ℕ) → i + n ≡ length xs → m ≡ after_ticks w (take i xs) → (found out : List ℤ)
-      → out ≡ over (values w (take i xs)) found → filled_from (pos 0) i n out ≡ over (values w xs) found
-  unfolding filled_from
-  failed_margins zero i e is found out h = h ∙ ap (λ t. over (values w t) found) (take_all i xs (omega arith))
-  failed_margins (suc n) i e is found out h =
-      failed_margins n (suc i) (omega arith) (rw (add-one i) at (failed_on i (omega arith) is)) found (set out i (pos 0))
-      (rw (add-one i) at (margin_put w xs i (omega arith) m is found out (pos 0) h
-      (ap (λ (c : Margin). c.value) (sym (carried_failed m (get_or xs i 0) l f)))))
+  pub failed_values : (xs : List ℕ) → values m xs ≡ replicate (length xs) (pos 0)
+  unfolding margins
+  failed_values [] = refl
+  failed_values (x ∷ xs) =
+      λ i. (carried_failed m x l f i).value ∷ (ap (λ u. values u xs) (sym (failed_stays x)) ∙ failed_values xs) i
 
-  pub failed_after : (n i : ℕ) → i + n ≡ length xs → m ≡ after_ticks w (take i xs) → m ≡ after_ticks w xs
-  failed_after zero i e is = is ∙ ap (after_ticks w) (take_all i xs (omega arith))
-  failed_after (suc n) i e is = failed_after n (suc i) (omega arith) (rw (add-one i) at (failed_on i (omega arith) is))
+  -- It is what the first i of the counts xs have left of the view w: the others are answered so.
+  module _ (w : MonitorView) (xs : List ℕ) (i n : ℕ) (h : i ≤ length xs) (left : n ≡ length xs - i) (is : m ≡ after_ticks w (take i xs)) where
+    pub failed_end : m ≡ after_ticks w xs
+    failed_end =
+        failed_after (drop i xs) ∙ ap (λ u. after_ticks u (drop i xs)) is ∙ sym (after-append w (take i xs) (drop i xs))
+        ∙ ap (after_ticks w) (take-append-drop i xs)
+
+    others : length (drop i xs) ≡ n
+    others = length-drop i xs ∙ sym left
+
+    pub failed_verdicts : (found out : List ℕ) → out ≡ over (codes w (take i xs)) found → filled_from 3_000 i n out ≡ over (codes w xs) found
+    failed_verdicts found out e =
+        ap (filled_from 3_000 i n) e
+        ∙ over_behind (codes w (take i xs)) (replicate n 3_000) found i (codes_length w (take i xs) ∙ length-take-le i xs h)
+        ∙ ap (λ t. over t found)
+        (ap (λ t. codes w (take i xs) ++ t)
+        (ap (λ k. replicate k 3_000) (sym others) ∙ sym (failed_codes (drop i xs)) ∙ ap (λ u. codes u (drop i xs)) is)
+        ∙ sym (codes_append w (take i xs) (drop i xs)) ∙ ap (codes w) (take-append-drop i xs))
+
+    pub failed_margins : (found out : List ℤ) → out ≡ over (values w (take i xs)) found → filled_from (pos 0) i n out ≡ over (values w xs) found
+    failed_margins found out e =
+        ap (filled_from (pos 0) i n) e
+        ∙ over_behind (values w (take i xs)) (replicate n (pos 0)) found i (values_length w (take i xs) ∙ length-take-le i xs h)
+        ∙ ap (λ t. over t found)
+        (ap (λ t. values w (take i xs) ++ t)
+        (ap (λ k. replicate k (pos 0)) (sym others) ∙ sym (failed_values (drop i xs)) ∙ ap (λ u. values u (drop i xs)) is)
+        ∙ sym (values_append w (take i xs) (drop i xs)) ∙ ap (values w) (take-append-drop i xs))
 
 -- ---- the end of each: no entry of the list is left
 pub put_all : {S : Type 0} (run : S → List ℕ → List ℕ) → ((s : S) (ys : List ℕ) → length (run s ys) ≡ length ys) → (s : S) (xs : List ℕ)

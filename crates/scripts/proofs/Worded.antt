@@ -1,24 +1,22 @@
 -- Words: what is read of them after other held ticks and another failed mark have been written. Assumes nothing.
 use Rattle.laws.proofs.Base.{ℕ, zero, suc, ◌+◌, ◌-◌, ◌≤◌, ◌<◌, ◌≡◌, refl, sym, ap, ◌∙◌, Bool, true, false, List, [], ◌∷◌, ◌++◌, arith}
 use Rattle.laws.proofs.Base.{length, get_or, set, sets, take, drop, length-set, length-drop, length-take-le, ext_get_or, get_or-drop, dec_lt}
-use Rattle.laws.proofs.Base.{lt-ltb, eqb, ne_eqb, eq-eqb, ◌&&◌}
-use Rattle.laws.proofs.Base.{append_assoc, append-nil, add-one, take_all, replicate, length-replicate, drop-cons, drop_of_length-le, set_at}
+use Rattle.laws.proofs.Base.{lt-ltb}
+use Rattle.laws.proofs.Base.{append_assoc, take_all}
 use Rattle.laws.specs.Writing.{over}
-use lib.ListN.{length-take, take-append-drop, replicate-append-replicate}
+use lib.ListN.{take-append-drop}
 use borrow.Rule.Slice.PartMut.{mid_of, put_mid}
-use lib.Seq.{get_or-take, get_or-set_same, get_or-set_other, length-sets, take-take, set-set, set_comm, set-get_or, set-append_left, take-set-lt}
+use lib.Seq.{get_or-take, get_or-set_same, get_or-set_other, length-sets, take-take, set-set, set_comm, set-append_left, take-set-lt}
 use lib.Seq.{drop-set-lt}
 use lib.Seq.{drop-append-le, drop-drop, sets-eq}
 use Rattle.curves.specs.Pairs.{pair_of}
 use Rattle.curves.specs.Ticks.{newest}
-use Rattle.curves.specs.Unlimited.{with_mark}
-use Rattle.history.specs.declared.History.{History}
 use Rattle.history.specs.States.{View, entries, history_of, view_of}
 use Rattle.history.specs.Steps.{view_with}
 use Rattle.history.proofs.Histories.{Sizes, entries-take}
 use Rattle.lists.specs.Pushing.{held_with_all, PushedAll}
 use Rattle.scripts.specs.Runs.{held_after}
-use Rattle.monitor.specs.Monitoring.{MonitorView, monitor_view, closed_in, monitor_of, monitor_view_of}
+use Rattle.monitor.specs.Monitoring.{MonitorView, monitor_view, closed_in, monitor_view_of}
 use Rattle.scripts.specs.Words.{mark_from, word, part, history_from, monitor_from, generator_words, monitor_words, with_held, failed_word}
 use Rattle.scripts.specs.Words.{monitor_left}
 
@@ -239,24 +237,6 @@ left_left ws w w' long few more fails =
     b : ℕ
     b = failed_word (word 1_283 ws) w'.failed
 
--- The failed mark is written where it was not set and is to be.
-pub failed-set : (ws : List ℕ) (b : Bool) → (b && eqb (word 1_283 ws) 0) ≡ true → set ws 1_283 1 ≡ set ws 1_283
-    (failed_word (word 1_283 ws) b)
-failed-set ws b e = ap (set ws 1_283) (go (word 1_283 ws) b e)
-  where
-    go : (n : ℕ) (b : Bool) → (b && eqb n 0) ≡ true → 1 ≡ failed_word n b
-    go zero true e = refl
-    go (suc n) true e = let z : ◌≡◌ {A = ℕ} 0 1 = cc (e, ne_eqb (suc n) 0 (λ e. omega arith)) in absurd (omega arith)
-    go n false e = let z : ◌≡◌ {A = ℕ} 0 1 = cc e in absurd (omega arith)
-
-pub failed_kept : (ws : List ℕ) (b : Bool) → (b && eqb (word 1_283 ws) 0) ≡ false → ws ≡ set ws 1_283 (failed_word (word 1_283 ws) b)
-failed_kept ws b e = sym (set-get_or ws 1_283 0) ∙ ap (set ws 1_283) (go (word 1_283 ws) b e)
-  where
-    go : (n : ℕ) (b : Bool) → (b && eqb n 0) ≡ false → n ≡ failed_word n b
-    go zero true e = let z : ◌≡◌ {A = ℕ} 0 1 = cc (e, eq-eqb 0 0 refl) in absurd (omega arith)
-    go zero false e = refl
-    go (suc n) b e = refl
-
 -- ---- how the held ticks are written
 -- What follows the first n of a part, and what follows the part.
 rest_whole : (d : List ℕ) (n m : ℕ) → n ≤ m → m ≤ length d → drop n (take m d) ++ drop m d ≡ drop n d
@@ -296,6 +276,17 @@ module _ (ws xs : List ℕ) (m : ℕ) (long : 515 + m ≤ length ws) (few : leng
       ∙ ap (λ t. t ++ (places ++ drop m (drop 515 ws))) (sym (take-set-lt 515 ws 514 (length xs) (omega arith)))
       ∙ ap (λ t. take 515 numbered ++ (places ++ drop m t)) (sym behind_number)
 
+-- Written by themselves, behind their number.
+pub held_written : (ws xs : List ℕ) (n : ℕ) → 515 + n ≤ length ws → n ≡ length xs
+    → put_mid 515 (515 + n - 515) (set ws 514 n) xs ≡ with_held ws xs
+held_written ws xs n long e =
+    let k : 515 + n - 515 ≡ length xs = omega arith in
+    let numbered : List ℕ = set ws 514 (length xs) in
+    (λ i. put_mid 515 (k i) (set ws 514 (e i)) xs)
+    ∙ ap (λ t. take 515 numbered ++ (xs ++ t)) (drop-drop (length xs) 515 numbered)
+    ∙ sym (append_assoc (take 515 numbered) xs (drop (515 + length xs) numbered))
+    ∙ sym (sets-eq xs numbered 515 (omega (arith, length-set ws 514 (length xs))))
+
 -- What is held after counts are pushed behind the held ticks.
 module _ (ws xs : List ℕ) (long : generator_words ≤ length ws) (Z : Sizes (history_from ws)) where
   abbrev places : List ℕ
@@ -331,20 +322,3 @@ module _ (ws xs : List ℕ) (long : generator_words ≤ length ws) (Z : Sizes (h
       (λ i. set (put_mid 515 (free_is i) ws left) 514 (number i))
       ∙ number_last ws (held_after ws xs) free (omega (arith, Z.within)) held_few left
       ∙ held_put ws (held_after ws xs) free (omega (arith, Z.within)) held_few left front
-
-  pub pushed_fits : (left : List ℕ) (n : ℕ) → PushedAll places (word 514 ws) xs left n → n ≤ 256
-  pushed_fits left n p = omega (arith, p.number, ap length held_pushed, held_few, Z.within)
-
--- ---- a list that is filled with one number
-pub filled_turn : (v : ℕ) (l out : List ℕ) (i : ℕ) → i < length l → out ≡ replicate i v ++ drop i l
-    → set out i v ≡ replicate (i + 1) v ++ drop (i + 1) l
-filled_turn v l out i h e =
-    ap (λ t. set t i v) (e ∙ ap (λ t. replicate i v ++ t) (drop-cons l i 0 h))
-    ∙ set_at (replicate i v) (get_or l i 0) (drop (suc i) l) v i (length-replicate i v)
-    ∙ sym (append_assoc (replicate i v) (v ∷ []) (drop (suc i) l))
-    ∙ ap (λ t. t ++ drop (suc i) l) (replicate-append-replicate i 1 v)
-    ∙ rw (add-one i)
-
-pub filled_end : (v : ℕ) (l out : List ℕ) (i : ℕ) → i ≡ length l → out ≡ replicate i v ++ drop i l → out ≡ replicate (length l) v
-filled_end v l out i h e =
-    e ∙ (rw (drop_of_length-le l {i = i} (omega arith)) (append-nil (replicate i v))) ∙ ap (λ n. replicate n v) h

@@ -1,5 +1,5 @@
 -- What is written of a state by value after ticks: the words that these leave. Assumes nothing.
-use Rattle.laws.proofs.Base.{ℕ, ◌≤◌, ◌≡◌, sym, ap, ◌∙◌, List, arith, length, set}
+use Rattle.laws.proofs.Base.{ℕ, ◌≤◌, ◌≡◌, ap, ◌∙◌, List, arith, length, set}
 use Rattle.history.specs.declared.History.{History}
 use Rattle.history.specs.States.{View, view_of}
 use Rattle.history.proofs.Histories.{held_seen}
@@ -7,7 +7,7 @@ use Rattle.monitor.specs.declared.Monitor.{Monitor}
 use Rattle.monitor.specs.Monitoring.{MonitorView, monitor_view_of}
 use Rattle.monitor.specs.Calls.{after_ticks}
 use Rattle.generator.specs.Calls.{after_sendings}
-use Rattle.scripts.specs.Words.{history_from, monitor_from, LegalMonitorWords, LegalGeneratorWords, generator_words, word, with_held}
+use Rattle.scripts.specs.Words.{history_from, monitor_from, LegalMonitorWords, LegalGeneratorWords, word, with_held}
 use Rattle.scripts.specs.Words.{failed_word, monitor_left}
 use Rattle.scripts.proofs.Worded.{held_after_lem}
 use Rattle.scripts.proofs.Pieces.{after_few, sent_few}

@@ -1,13 +1,8 @@
--- Answers as numbers: of a call, and of each tick of a list.
+-- Answers as numbers: a refusal's, and those of the ticks of a list.
 use Rattle.std.specs.Prelude.{ℕ, ◌+◌, ◌-◌}
 use Rattle.curves.specs.Ticks.{passed, too_many, too_few}
 use Rattle.curves.specs.Questions.{Reply, result, refusal}
 use Rattle.monitor.specs.Monitoring.{Ruling, judged, lost, already_failed}
-
--- The number of a refusal; 0 where there is none.
-abbrev pub reply_number : {A : Type 0} → Reply A → ℕ
-reply_number (result a) = 0
-reply_number (refusal n) = n
 
 -- A refusal's number with a minus sign, in 64 bits.
 abbrev pub minus : ℕ → ℕ

@@ -4,5 +4,6 @@ pub mod Codes
 pub mod Words
 pub mod Scripts
 pub mod Theorems
+pub mod Answers
 pub mod Steps
 pub mod Runs

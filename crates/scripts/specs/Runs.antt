@@ -1,5 +1,5 @@
 -- What the private functions on words promise each other. No public promise cites anything of it.
-use Rattle.std.specs.Prelude.{ℕ, zero, suc, ◌-◌, ◌≤◌, ◌≡◌, Bool, true, false, List, [], ◌∷◌, ◌++◌, map, ℤ, length, set, take}
+use Rattle.std.specs.Prelude.{ℕ, ◌-◌, ◌≤◌, ◌≡◌, Bool, true, false, List, [], ◌∷◌, ◌++◌, map, ℤ, length, take, replicate}
 use Rattle.laws.specs.Writing.{over}
 use Rattle.curves.specs.Ticks.{newest}
 use Rattle.bounds.specs.Bounds.{max_horizon, Bounded}
@@ -61,9 +61,8 @@ pub record JudgedByValue (w : MonitorView) (xs : List ℕ) (ms : List ℤ) (afte
     pub margins_left : margins-after ≡ over (margin_values (margins w xs)) ms
 
 -- A list with one entry in each of n places from i on, as far as it has these.
-unfoldable pub filled_from : {A : Type 0} → A → ℕ → ℕ → List A → List A
-filled_from a i zero xs = xs
-filled_from a i (suc n) xs = filled_from a (suc i) n (set xs i a)
+abbrev pub filled_from : {A : Type 0} → A → ℕ → ℕ → List A → List A
+filled_from a i n xs = over (take i xs ++ replicate n a) xs
 
 -- ---- choices
 -- The first n of the choices are sent, all are, and the same with the state by value.

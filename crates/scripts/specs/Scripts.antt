@@ -1,5 +1,5 @@
 -- What the operations on words give back: a number, and every list that was lent as it is left.
-use Rattle.std.specs.Prelude.{ℕ, ◌+◌, ◌-◌, ◌*◌, List, [], ◌∷◌, ◌++◌, map, ℤ, length, take}
+use Rattle.std.specs.Prelude.{ℕ, ◌+◌, ◌*◌, List, [], ◌∷◌, ◌++◌, map, ℤ, length, take}
 use Rattle.laws.specs.Writing.{over}
 use Rattle.curves.specs.Margins.{Margin}
 use Rattle.curves.specs.Unlimited.{AnyPair}
@@ -87,6 +87,10 @@ sent_choices ws xs cs = sent_all ws (take (length cs) xs) cs
 abbrev pub range_number : Reply RangeAnswer → ℕ
 range_number (result b) = b.hi * 4_294_967_296 + b.lo
 range_number (refusal n) = minus n
+
+-- What a look answers, and as a number.
+unfoldable pub looking : List ℕ → Reply RangeAnswer
+looking ws = answer_to (generator_question12 ws ∷ []) (λ _. ranging (view_of (history_from ws))) refusal
 
 unfoldable pub looked : List ℕ → ℕ
 looked ws = answer_to (generator_question12 ws ∷ []) (λ _. range_number (ranging (view_of (history_from ws)))) minus

@@ -1,17 +1,21 @@
 -- What the private functions of this crate promise each other. No public promise cites anything of it.
 use Rattle.std.specs.Prelude.{ℕ, zero, suc, ◌+◌, ◌-◌, ◌≤◌, ◌<◌, min, max, ◌≡◌, Bool, true, false, List, ◌++◌, map, ◌↔◌, length, get_or, take, drop, replicate}
 use Rattle.laws.specs.Tests.{Tells}
-use Rattle.curves.specs.Pairs.{figure}
+use Rattle.curves.specs.Pairs.{figure, pair_of}
 use Rattle.curves.specs.Ticks.{last, passed}
 use Rattle.curves.specs.Questions.{result}
 use Rattle.bounds.specs.Bounds.{max_horizon, figure_limit}
 use Rattle.history.specs.States.{View, Legal}
 use Rattle.history.specs.Steps.{view_with}
-use Rattle.monitor.specs.Monitoring.{MonitorView, judged}
+use Rattle.bounds.specs.declared.Curves.{Curves}
+use Rattle.bounds.specs.Answers.{curves_in}
+use Rattle.history.specs.declared.View as declared
+use Rattle.history.specs.Answers.{view_in}
+use Rattle.monitor.specs.Monitoring.{MonitorView, monitor_view, closed_in, judged}
 use Rattle.monitor.specs.Calls.{rulings}
 use Rattle.generator.specs.Calls.{sendings}
 use Rattle.monitor.specs.declared.Verdict.{Verdict}
-use Rattle.monitor.specs.declared.Verdict.TheVariants.{Passed, TooMany, TooFew, Lost, AlreadyFailed, BadState}
+use Rattle.monitor.specs.declared.Verdict.TheVariants.{Passed, TooMany, TooFew, Lost, AlreadyFailed}
 
 -- A window that is named is no longer than the longest horizon.
 abbrev pub NamesWindow : Verdict → Type 0
@@ -20,7 +24,6 @@ NamesWindow (TooMany d) = d ≤ max_horizon
 NamesWindow (TooFew d) = d ≤ max_horizon
 NamesWindow Lost = Unit {0}
 NamesWindow AlreadyFailed = Unit {0}
-NamesWindow BadState = Unit {0}
 
 -- ---- sums of the newest ticks, and figures, those of longer windows first
 -- No larger sum is kept.
@@ -43,11 +46,11 @@ abbrev pub strict_least : Bool → ℕ → ℕ → ℕ
 strict_least true given closed = given
 strict_least false given closed = max given closed
 
--- Those of all windows, turned round, at the beginning of an array.
-pub record TurnedStrict (stricter : ℕ → ℕ → ℕ) (given closed strict : List ℕ) : Type 0 where
+-- Those of all windows, turned round, at the beginning of an array; `stricter` holds of a window's given and closed figure and what is made
+-- of them.
+pub record TurnedBy (stricter : ℕ → ℕ → ℕ → Type 0) (given closed strict : List ℕ) : Type 0 where
   pub room : length given ≤ length strict
-  pub entry : (d : ℕ) → 1 ≤ d → d ≤ length given
-      → get_or strict (length given - d) 0 ≡ stricter (figure 0 given d) (figure 0 closed d)
+  pub entry : (d : ℕ) → 1 ≤ d → d ≤ length given → stricter (figure 0 given d) (figure 0 closed d) (get_or strict (length given - d) 0)
 
 -- No entry of a list is above the limit.
 abbrev pub Kept : List ℕ → Type 0
@@ -96,6 +99,11 @@ KeepFirst ceilings leasts xs counts n =
 abbrev pub KeepOn : List ℕ → List ℕ → List ℕ → List ℕ → ℕ → Type 0
 KeepOn ceilings leasts sums counts n =
     (xs : List ℕ) → length ceilings ≤ length xs + 1 → KeptSums xs (length ceilings - 1) sums → KeepFirst ceilings leasts xs counts n
+
+-- A monitor that has not failed, of what counts of its history and of the closed figures.
+abbrev pub monitor_in : declared.View → Curves → MonitorView
+monitor_in w q =
+    monitor_view (view_in w) (closed_in (curves_in w.curves) (pair_of q.upper.now q.lower.now)) false
 
 -- The first n of the counts pass.
 abbrev pub PassesFirst : MonitorView → List ℕ → ℕ → Type 0

@@ -1,17 +1,13 @@
 // A list of choices on a generator's words.
 
-ghost use Rattle.std.specs.Prelude.{◌≡◌, map, length};
+ghost use Rattle.std.specs.Prelude.{◌≡◌, length};
 ghost use Rattle.history.specs.States.{view_of};
-ghost use Rattle.generator.specs.Answers.{sending_reply};
-ghost use Rattle.scripts.specs.Codes.{sending_code};
 ghost use Rattle.scripts.specs.Words.{LegalGeneratorWords};
 ghost use Rattle.scripts.specs.Runs.{SentFirst, SentRest, SentByValue};
 
+use crate::codes::sending_code;
 use crate::{sending, words};
-use generator::{Generator, Sending};
-
-// What a refusal is as an entry of a list, with its number added.
-const REFUSED: u32 = 4_000_000_000;
+use generator::Generator;
 
 // The choices that can be sent by sums in 32 bits, from the first on, without a state by value. Gives back how many they are.
 pub(crate) fn send_first(state: &mut [u32], choices: &[u32], counts: &mut [u32]) -> usize
@@ -19,16 +15,7 @@ pub(crate) fn send_first(state: &mut [u32], choices: &[u32], counts: &mut [u32])
     ensures { SentFirst state.old choices.now counts.old state.new
         counts.new result }
 {
-    let horizon = state[words::HORIZON] as usize;
-    let held = state[words::HELD] as usize;
-    let n = sending::send_first(
-        &state[words::UPPER..words::UPPER + horizon],
-        &state[words::LOWER..words::LOWER + horizon],
-        0 < state[words::UNLIMITED],
-        &state[words::TICKS..words::TICKS + held],
-        choices,
-        counts,
-    );
+    let n = sending::send_first(words::view(state), choices, counts);
     words::hold(state, &counts[..n]);
     n
 }
@@ -44,29 +31,14 @@ pub(crate) fn send_rest(state: &mut [u32], choices: &[u32], counts: &mut [u32])
 }
 
 // Each choice by the state that the one before it left.
-fn send_all(opened: Generator, choices: &[u32], counts: &mut [u32]) -> Generator
+fn send_all(mut generator: Generator, choices: &[u32], counts: &mut [u32]) -> Generator
     requires { length counts.old ≡ length choices.now }
-    ensures { SentByValue (view_of opened.history) choices.now counts.new result }
+    ensures { SentByValue (view_of generator.history) choices.now counts.new result }
 {
-    let mut generator = opened;
-    let mut i = 0;
-    while i < choices.len() {
-        let sent = generator.tick(choices[i]);
-        let sending = sent.sending;
-        counts[i] = sending_code(sending);
+    for (i, choice) in choices.iter().enumerate() {
+        let sent = generator.tick(*choice);
+        counts[i] = sending_code(sent.sending);
         generator = sent.next;
-        i += 1;
     }
     generator
-}
-
-// What a tick of a generator answers, as an entry.
-fn sending_code(sending: Sending) -> u32
-    ensures { result ≡ sending_code (sending_reply sending) }
-{
-    match sending {
-        Sending::Sent { count } => count,
-        Sending::BadState => REFUSED + 12,
-        Sending::NoCount => REFUSED + 13,
-    }
 }

@@ -1,32 +1,16 @@
 // A list of counts on a monitor's words.
 
-ghost use Rattle.std.specs.Prelude.{◌≡◌, ◌-◌, pos, length, set};
+ghost use Rattle.std.specs.Prelude.{◌≡◌, ◌-◌, ◌≤◌, pos, length, set};
 ghost use Rattle.monitor.specs.Monitoring.{monitor_view_of, LegalMonitor};
-ghost use Rattle.monitor.specs.Answers.{verdict_reply};
-ghost use Rattle.scripts.specs.Codes.{ruling_code};
 ghost use Rattle.scripts.specs.Words.{LegalMonitorWords};
-ghost use Rattle.scripts.specs.Steps.{NamesWindow};
 ghost use Rattle.scripts.specs.Runs.{JudgedFirst, JudgedRest, JudgedByValue, filled_from};
 
+use crate::codes::{ALREADY_FAILED, PASSED, verdict_code};
 use crate::{passing, words};
-use monitor::{Monitor, Verdict};
+use monitor::Monitor;
 
 // How many ticks there are from one look at the failed mark to the next.
 const GLANCE: usize = 64;
-
-// Verdicts as entries of a list.
-const PASSED: u32 = 0;
-
-const TOO_MANY: u32 = 1_000;
-
-const TOO_FEW: u32 = 2_000;
-
-const ALREADY_FAILED: u32 = 3_000;
-
-const LOST: u32 = 4_000;
-
-// And a refusal, with its number added.
-const REFUSED: u32 = 4_000_000_000;
 
 // The counts that are sure to pass, from the first on, without a state by value and without margins. Gives back how many they are.
 pub(crate) fn judge_first(state: &mut [u32], counts: &[u32], verdicts: &mut [u32]) -> usize
@@ -34,22 +18,12 @@ pub(crate) fn judge_first(state: &mut [u32], counts: &[u32], verdicts: &mut [u32
     ensures { JudgedFirst state.old counts.now verdicts.old state.new
         verdicts.new result }
 {
-    if 0 < state[words::FAILED] {
+    if words::failed(state) {
         return 0;
     }
-    let horizon = state[words::HORIZON] as usize;
-    let held = state[words::HELD] as usize;
-    let n = passing::count_passing(
-        &state[words::UPPER..words::UPPER + horizon],
-        &state[words::LOWER..words::LOWER + horizon],
-        0 < state[words::UNLIMITED],
-        &state[words::CLOSED_UPPER..words::CLOSED_UPPER + horizon],
-        &state[words::CLOSED_LOWER..words::CLOSED_LOWER + horizon],
-        &state[words::TICKS..words::TICKS + held],
-        counts,
-    );
+    let n = passing::count_passing(words::view(state), words::closed(state), counts);
     words::hold(state, &counts[..n]);
-    words::fill(&mut verdicts[..n], PASSED);
+    verdicts[..n].fill(PASSED);
     n
 }
 
@@ -72,40 +46,41 @@ pub(crate) fn judge_rest(
 
 // Each count by the state that the one before it left. A monitor that has failed judges nothing any more. Its mark is looked at only now and
 // then: where it decides at every tick, the compiler copies the state once more.
-fn judge_all(opened: Monitor, counts: &[u32], verdicts: &mut [u32], margins: &mut [i64]) -> Monitor
-    requires { (length verdicts.old ≡ length counts.now) × LegalMonitor (monitor_view_of opened) }
-    ensures { JudgedByValue (monitor_view_of opened) counts.now margins.old verdicts.new
+fn judge_all(
+    mut monitor: Monitor,
+    counts: &[u32],
+    verdicts: &mut [u32],
+    margins: &mut [i64],
+) -> Monitor
+    requires { (length verdicts.old ≡ length counts.now) × LegalMonitor (monitor_view_of monitor) }
+    ensures { JudgedByValue (monitor_view_of monitor) counts.now margins.old verdicts.new
         margins.new result }
 {
-    let mut monitor = opened;
-    let mut i = 0;
-    while i < counts.len() {
+    for (i, count) in counts.iter().enumerate() {
         if monitor.failed & (i % GLANCE == 0) {
             reject_from(i, verdicts, margins);
             return monitor;
         }
-        let judgement = monitor.tick(counts[i]);
-        let verdict = judgement.verdict;
-        verdicts[i] = verdict_code(verdict);
+        let judgement = monitor.tick(*count);
+        verdicts[i] = verdict_code(judgement.verdict);
         put_margin(margins, i, judgement.margin);
         monitor = judgement.next;
-        i += 1;
     }
     monitor
 }
 
 // The verdicts from a place on, and the margins, of a monitor that has failed.
 fn reject_from(first: usize, verdicts: &mut [u32], margins: &mut [i64])
+    requires { first ≤ length verdicts.old }
     ensures verdicts_after { verdicts.new
         ≡ filled_from 3_000 first (length verdicts.old - first) verdicts.old }
     ensures margins_after { margins.new
         ≡ filled_from (pos 0) first (length verdicts.old - first) margins.old }
 {
-    let mut i = first;
-    while i < verdicts.len() {
-        verdicts[i] = ALREADY_FAILED;
-        put_margin(margins, i, 0);
-        i += 1;
+    verdicts[first..].fill(ALREADY_FAILED);
+    let end = margins.len().min(verdicts.len());
+    if first < end {
+        margins[first..end].fill(0);
     }
 }
 
@@ -115,20 +90,5 @@ fn put_margin(margins: &mut [i64], i: usize, margin: i64)
 {
     if i < margins.len() {
         margins[i] = margin;
-    }
-}
-
-// A verdict as an entry.
-fn verdict_code(verdict: Verdict) -> u32
-    requires { NamesWindow verdict }
-    ensures { result ≡ ruling_code (verdict_reply verdict) }
-{
-    match verdict {
-        Verdict::Passed => PASSED,
-        Verdict::TooMany { window } => TOO_MANY + window as u32,
-        Verdict::TooFew { window } => TOO_FEW + window as u32,
-        Verdict::Lost => LOST,
-        Verdict::AlreadyFailed => ALREADY_FAILED,
-        Verdict::BadState => REFUSED + 12,
     }
 }

@@ -1,15 +1,17 @@
-// States as lists of 32-bit words: question 12 of one, the state that it spells by value, and what ticks and an opening write into it.
+// States as lists of 32-bit words: question 12 of one, what stands in it, the state that it spells by value, and what ticks and an opening
+// write into it.
 
-ghost use Rattle.std.specs.Prelude.{◌≡◌, [], ◌∷◌, ◌++◌, ◌≤◌, length, set, replicate};
-ghost use Rattle.laws.specs.Tests.{Tells};
-ghost use Rattle.curves.specs.Unlimited.{with_mark};
+ghost use Rattle.std.specs.Prelude.{◌≡◌, [], ◌∷◌, ◌++◌, ◌≤◌, length, set, MatchResult};
+ghost use Rattle.bounds.specs.Answers.{curves_in};
 ghost use Rattle.bounds.specs.Bounds.{max_horizon};
-ghost use Rattle.history.specs.States.{view_of, Legal};
+ghost use Rattle.history.specs.Answers.{view_in};
+ghost use Rattle.history.specs.States.{view_of, entries, Legal};
 ghost use Rattle.scripts.specs.Words.{history_from, monitor_from, generator_words, monitor_words, LegalGeneratorWords};
-ghost use Rattle.scripts.specs.Words.{LegalMonitorWords, with_held, word, failed_word, mark_word, padded, opened_words};
+ghost use Rattle.scripts.specs.Words.{LegalMonitorWords, mark_from, part, with_held, word, failed_word, padded, opened_words};
 ghost use Rattle.scripts.specs.Runs.{ClosedWords, held_after, PairFits, shown, closed_from};
 
-use history::History;
+use bounds::Curves;
+use history::{BadState, History, View};
 use monitor::Monitor;
 
 // The longest horizon, and the largest figure.
@@ -22,80 +24,117 @@ pub(crate) const GENERATOR_WORDS: usize = 771;
 
 pub(crate) const MONITOR_WORDS: usize = 1_284;
 
-// Where its fields stand, or begin; a generator has those before the closed figures.
-pub(crate) const HORIZON: usize = 0;
+// Where its fields stand, or begin, one behind the other; a generator has those before the closed figures.
+const HORIZON: usize = 0;
 
-pub(crate) const UNLIMITED: usize = 1;
+const UNLIMITED: usize = 1;
 
-pub(crate) const UPPER: usize = 2;
+const UPPER: usize = 2;
 
-pub(crate) const LOWER: usize = 258;
+const LOWER: usize = 258;
 
-pub(crate) const HELD: usize = 514;
+const HELD: usize = 514;
 
-pub(crate) const TICKS: usize = 515;
+const TICKS: usize = 515;
 
-pub(crate) const CLOSED_UPPER: usize = 771;
+const CLOSED_UPPER: usize = 771;
 
-pub(crate) const CLOSED_LOWER: usize = 1_027;
+const CLOSED_LOWER: usize = 1_027;
 
-pub(crate) const FAILED: usize = 1_283;
+const FAILED: usize = 1_283;
 
 // Question 12 of a generator's words.
-pub(crate) fn legal_generator(words: &[u32]) -> bool
-    ensures { Tells result (LegalGeneratorWords words.now) }
+pub(crate) fn generator_legality(words: &[u32]) -> Result<(), BadState>
+    ensures { MatchResult result (λ _. LegalGeneratorWords words.now) (λ _. ¬ LegalGeneratorWords words.now) }
 {
     if words.len() != GENERATOR_WORDS {
-        return false;
+        return Err(BadState);
     }
-    legal_history(words)
+    history_legality(words)
 }
 
 // And of a monitor's.
-pub(crate) fn legal_monitor(words: &[u32]) -> bool
-    ensures { Tells result (LegalMonitorWords words.now) }
+pub(crate) fn monitor_legality(words: &[u32]) -> Result<(), BadState>
+    ensures { MatchResult result (λ _. LegalMonitorWords words.now) (λ _. ¬ LegalMonitorWords words.now) }
 {
     if words.len() != MONITOR_WORDS {
-        return false;
+        return Err(BadState);
     }
-    if !legal_history(words) {
-        return false;
-    }
-    legal_closed(words)
+    history_legality(words)?;
+    closed_legality(words)
 }
 
 // What question 12 asks of the words that both have.
-fn legal_history(words: &[u32]) -> bool
+fn history_legality(words: &[u32]) -> Result<(), BadState>
     requires { generator_words ≤ length words.now }
-    ensures { Tells result (Legal (view_of (history_from words.now))) }
+    ensures { MatchResult result (λ _. Legal (view_of (history_from words.now)))
+        (λ _. ¬ Legal (view_of (history_from words.now))) }
 {
     let horizon = words[HORIZON] as usize;
-    let held = words[HELD] as usize;
-    if MAX_HORIZON < horizon {
-        return false;
+    if MAX_HORIZON < horizon || horizon <= words[HELD] as usize {
+        return Err(BadState);
     }
-    if horizon <= held {
-        return false;
+    let view = view(words);
+    if !view.curves.within(FIGURE_LIMIT) {
+        return Err(BadState);
     }
-    bounds::all_within(
-        &words[UPPER..UPPER + horizon],
-        &words[LOWER..LOWER + horizon],
-        0 < words[UNLIMITED],
-        FIGURE_LIMIT,
-    )
+    Ok(())
 }
 
 // What it asks of the closed figures; without ceilings, nothing.
-fn legal_closed(words: &[u32]) -> bool
+fn closed_legality(words: &[u32]) -> Result<(), BadState>
     requires { (length words.now ≡ monitor_words) × (word 0 words.now ≤ max_horizon) }
-    ensures { Tells result (ClosedWords words.now) }
+    ensures { MatchResult result (λ _. ClosedWords words.now) (λ _. ¬ ClosedWords words.now) }
 {
-    if 0 < words[UNLIMITED] {
-        return true;
+    let closed = closed(words);
+    if !closed.unlimited && !closed.within(FIGURE_LIMIT) {
+        return Err(BadState);
     }
+    Ok(())
+}
+
+// What counts of the history in the words: the figures up to the horizon, and the held ticks.
+pub(crate) fn view(words: &[u32]) -> View<'_>
+    requires { (generator_words ≤ length words.now) × (word 0 words.now ≤ max_horizon) × (word 514 words.now ≤ max_horizon) }
+    ensures view { view_in result ≡ view_of (history_from words.now) }
+    ensures upper_len { length result.curves.upper.now ≡ word 0 words.now }
+    ensures lower_len { length result.curves.lower.now ≡ word 0 words.now }
+    ensures ticks_len { length result.ticks.now ≡ word 514 words.now }
+{
     let horizon = words[HORIZON] as usize;
-    bounds::within_limit(&words[CLOSED_UPPER..CLOSED_UPPER + horizon])
-        & bounds::within_limit(&words[CLOSED_LOWER..CLOSED_LOWER + horizon])
+    let held = words[HELD] as usize;
+    let curves = Curves {
+        upper: &words[UPPER..UPPER + horizon],
+        lower: &words[LOWER..LOWER + horizon],
+        unlimited: 0 < words[UNLIMITED],
+    };
+    View {
+        curves,
+        ticks: &words[TICKS..TICKS + held],
+    }
+}
+
+// The closed figures of a monitor, with the mark of the pair: where it is set, they have no effect.
+pub(crate) fn closed(words: &[u32]) -> Curves<'_>
+    requires { (length words.now ≡ monitor_words) × (word 0 words.now ≤ max_horizon) }
+    ensures upper { result.upper.now ≡ entries (word 0 words.now) (part 771 256 words.now) }
+    ensures lower { result.lower.now ≡ entries (word 0 words.now) (part 1_027 256 words.now) }
+    ensures unlimited { result.unlimited ≡ mark_from (word 1 words.now) }
+{
+    let horizon = words[HORIZON] as usize;
+    Curves {
+        upper: &words[CLOSED_UPPER..CLOSED_UPPER + horizon],
+        lower: &words[CLOSED_LOWER..CLOSED_LOWER + horizon],
+        unlimited: 0 < words[UNLIMITED],
+    }
+}
+
+// Whether a tick of a monitor was rejected.
+pub(crate) fn failed(words: &[u32]) -> bool
+    requires { length words.now ≡ monitor_words }
+    ensures { result ≡ mark_from (word 1_283 words.now) }
+{
+    0 < words[FAILED]
 }
 
 // The history that words spell, by value.
@@ -103,16 +142,13 @@ pub(crate) fn read_history(words: &[u32]) -> History
     requires { generator_words ≤ length words.now }
     ensures { result ≡ history_from words.now }
 {
-    let upper = array_of(&words[UPPER..UPPER + MAX_HORIZON]);
-    let lower = array_of(&words[LOWER..LOWER + MAX_HORIZON]);
-    let ticks = array_of(&words[TICKS..TICKS + MAX_HORIZON]);
     History {
         horizon: words[HORIZON] as usize,
-        upper,
-        lower,
+        upper: array_of(&words[UPPER..LOWER]),
+        lower: array_of(&words[LOWER..HELD]),
         unlimited: 0 < words[UNLIMITED],
         held: words[HELD] as usize,
-        ticks,
+        ticks: array_of(&words[TICKS..CLOSED_UPPER]),
     }
 }
 
@@ -121,14 +157,11 @@ pub(crate) fn read_monitor(words: &[u32]) -> Monitor
     requires { length words.now ≡ monitor_words }
     ensures { result ≡ monitor_from words.now }
 {
-    let history = read_history(words);
-    let closed_upper = array_of(&words[CLOSED_UPPER..CLOSED_UPPER + MAX_HORIZON]);
-    let closed_lower = array_of(&words[CLOSED_LOWER..CLOSED_LOWER + MAX_HORIZON]);
     Monitor {
-        history,
-        closed_upper,
-        closed_lower,
-        failed: 0 < words[FAILED],
+        history: read_history(words),
+        closed_upper: array_of(&words[CLOSED_UPPER..CLOSED_LOWER]),
+        closed_lower: array_of(&words[CLOSED_LOWER..FAILED]),
+        failed: failed(words),
     }
 }
 
@@ -137,9 +170,7 @@ fn array_of(list: &[u32]) -> [u32; MAX_HORIZON]
     requires { length list.now ≡ max_horizon }
     ensures { result ≡ list.now }
 {
-    let mut array = lists::zeros();
-    lists::copy(list, &mut array);
-    array
+    *list.first_chunk().unwrap()
 }
 
 // Puts counts behind the held ticks: the last of all of them, one fewer than the horizon at most, are then held.
@@ -159,9 +190,8 @@ pub(crate) fn write_held(words: &mut [u32], history: History)
     ensures { words.new ≡ with_held words.old (view_of history).held }
 {
     let held = history.held;
-    let ticks = history.ticks;
     words[HELD] = held as u32;
-    lists::copy(&ticks[..held], &mut words[TICKS..TICKS + MAX_HORIZON]);
+    words[TICKS..TICKS + held].copy_from_slice(&history.ticks[..held]);
 }
 
 // Writes the failed mark; one that is set stays as it is.
@@ -175,52 +205,42 @@ pub(crate) fn write_failed(words: &mut [u32], failed: bool)
 }
 
 // Writes a monitor that has been opened on a pair, into all of its words.
-pub(crate) fn write_monitor(
-    words: &mut [u32],
-    upper: &[u32],
-    lower: &[u32],
-    unlimited: bool,
-    opened: Monitor,
-)
-    requires { (length words.old ≡ monitor_words) × PairFits upper.now lower.now }
-    ensures { words.new ≡ opened_words (with_mark upper.now lower.now unlimited)
-        ++ closed_from (shown (length upper.now) unlimited) opened }
+pub(crate) fn write_monitor(words: &mut [u32], curves: Curves, opened: Monitor)
+    requires { (length words.old ≡ monitor_words) × PairFits curves.upper.now curves.lower.now }
+    ensures { words.new ≡ opened_words (curves_in curves.entry)
+        ++ closed_from (shown (length curves.entry.upper.now) curves.entry.unlimited) opened }
 {
-    let n = figures_shown(upper.len(), unlimited);
-    let closed_upper = opened.closed_upper;
-    let closed_lower = opened.closed_lower;
-    write_pair(&mut words[..GENERATOR_WORDS], upper, lower, unlimited);
+    let n = figures_shown(curves);
+    write_pair(&mut words[..GENERATOR_WORDS], curves);
     write_closed(
         &mut words[GENERATOR_WORDS..],
-        &closed_upper[..n],
-        &closed_lower[..n],
+        &opened.closed_upper[..n],
+        &opened.closed_lower[..n],
     );
 }
 
 // Of how many windows there are ceilings and closed figures.
-fn figures_shown(horizon: usize, unlimited: bool) -> usize
-    ensures { result ≡ shown horizon unlimited }
+fn figures_shown(curves: Curves) -> usize
+    ensures { result ≡ shown (length curves.entry.upper.now) curves.entry.unlimited }
 {
-    if unlimited { 0 } else { horizon }
+    if curves.unlimited {
+        0
+    } else {
+        curves.upper.len()
+    }
 }
 
 // Writes a pair with no held ticks, into all of a generator's words.
-pub(crate) fn write_pair(words: &mut [u32], upper: &[u32], lower: &[u32], unlimited: bool)
-    requires { (length words.old ≡ generator_words) × PairFits upper.now lower.now }
-    ensures { words.new ≡ opened_words (with_mark upper.now lower.now unlimited) }
+pub(crate) fn write_pair(words: &mut [u32], curves: Curves)
+    requires { (length words.old ≡ generator_words) × PairFits curves.upper.now curves.lower.now }
+    ensures { words.new ≡ opened_words (curves_in curves.entry) }
 {
-    let n = figures_shown(upper.len(), unlimited);
-    words[HORIZON] = upper.len() as u32;
-    words[UNLIMITED] = mark_word(unlimited);
-    write_figures(&mut words[UPPER..UPPER + MAX_HORIZON], &upper[..n]);
-    write_figures(&mut words[LOWER..LOWER + MAX_HORIZON], lower);
-    fill(&mut words[HELD..HELD + 257], 0);
-}
-
-fn mark_word(unlimited: bool) -> u32
-    ensures { result ≡ mark_word unlimited }
-{
-    if unlimited { 1 } else { 0 }
+    let n = figures_shown(curves);
+    words[HORIZON] = curves.upper.len() as u32;
+    words[UNLIMITED] = u32::from(curves.unlimited);
+    write_figures(&mut words[UPPER..LOWER], &curves.upper[..n]);
+    write_figures(&mut words[LOWER..HELD], curves.lower);
+    words[HELD..].fill(0);
 }
 
 // Writes the closed figures, and that the monitor has not failed.
@@ -238,17 +258,6 @@ fn write_figures(places: &mut [u32], figures: &[u32])
     requires { (length places.old ≡ max_horizon) × (length figures.now ≤ max_horizon) }
     ensures { places.new ≡ padded figures.now }
 {
-    lists::copy(figures, places);
-    fill(&mut places[figures.len()..], 0);
-}
-
-// One number throughout.
-pub(crate) fn fill(list: &mut [u32], value: u32)
-    ensures { list.new ≡ replicate (length list.old) value }
-{
-    let mut i = 0;
-    while i < list.len() {
-        list[i] = value;
-        i += 1;
-    }
+    places[..figures.len()].copy_from_slice(figures);
+    places[figures.len()..].fill(0);
 }

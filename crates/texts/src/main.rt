@@ -20,15 +20,17 @@ fn main(rt: HostRuntime) -> io::Result<()> {
     show_all(&rt, &input[..n])
 }
 
-// Reads up to the end of the input, or until there is no room.
+// Reads up to the end of the input, or until there is no room: so many bytes. The program `figures` has the same: a crate for it, with a test of
+// its own, would be longer than the two.
 fn read_input<R: Read>(from: &mut R, input: &mut [u8]) -> io::Result<usize>
     ensures { IfOk result (λ n. n ≤ length input.new) }
 {
     let mut n = 0;
+    // Stays a `while`: how far a turn comes is the reader's to say.
     while n < input.len() {
         let more = from.read(&mut input[n..])?;
         if more == 0 {
-            return Ok(n);
+            break;
         }
         n += more;
     }
@@ -37,31 +39,18 @@ fn read_input<R: Read>(from: &mut R, input: &mut [u8]) -> io::Result<usize>
 
 // Shows one text after the other.
 fn show_all(rt: &(impl Print + Eprint), input: &[u8]) -> io::Result<()> {
-    let mut at = 0;
-    while at < input.len() {
-        let bar = at + find(&input[at..], b'|');
-        show(rt, &input[at..bar])?;
-        at = bar + 1;
+    for lines in input.split_inclusive(|byte| *byte == b'|') {
+        show(rt, lines.strip_suffix(b"|").unwrap_or(lines))?;
     }
     Ok(())
 }
 
 // Writes the line above a text, and the output for the text.
 fn show(rt: &(impl Print + Eprint), lines: &[u8]) -> io::Result<()> {
-    let n = find(lines, b'\n');
-    if n == lines.len() {
+    let Some(n) = lines.iter().position(|byte| *byte == b'\n') else {
         return eprintln!(rt; "texts: a text without a line above it");
-    }
-    let report = report::report(&lines[n + 1..]);
-    let length = report.length;
-    let output = report.bytes;
-    rt.write_all(&lines[..n + 1])?;
-    rt.write_all(&output[..length])
-}
-
-// Where a byte stands first, or the length where it does not.
-fn find(bytes: &[u8], byte: u8) -> usize
-    ensures { result ≤ length bytes.now }
-{
-    bytes.iter().position(|b| *b == byte).unwrap_or(bytes.len())
+    };
+    let (line, text) = lines.split_at(n + 1);
+    rt.write_all(line)?;
+    rt.write_all(report::report(text).as_bytes())
 }

@@ -1,8 +1,10 @@
--- `exports::calgedze_read` meets its promise: what was read has at most 256 windows.
+-- `exports::calgedze_read` is safe: what was read has at most 256 windows.
 -- Assumes nothing.
-use Rattle.laws.proofs.Base.{ap}
+use Rattle.std.proofs.Common.{◌≤◌, ap, rules}
 use Rattle.constraints.proofs.Streams.{read_within}
 use Rattle.exports.proofs.calgedze_read.Goals as goal
 
-pub reading_answer-requires : goal.reading_answer-requires
-reading_answer-requires c = read_within _ _ _ (ap (λ a. a.horizon) c.read.ensures)
+pub overflow_cast-pair : goal.overflow_cast-pair
+overflow_cast-pair c =
+    let few : c.in-Ok.pair.horizon ≤ 256 = read_within _ _ _ (ap (λ a. a.horizon) c.in-Ok.ensures) in
+    search rules

@@ -1,3 +1,0 @@
--- What is proved of the functions at the boundary.
-mod Coded
-mod Copied
