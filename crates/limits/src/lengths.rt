@@ -65,17 +65,7 @@ fn try_lists(
 
 // Closing the pair into lists that are longer, two ticks of a monitor, and two of a generator.
 fn try_pair(rt: &impl Print, upper: &[u32], lower: &[u32], mark: u32) -> io::Result<()> {
-    let mut closed_upper = [7; ROOM];
-    let mut closed_lower = [7; ROOM];
-    numbers::show(
-        rt,
-        exports::calgedze_close(upper, lower, mark, &mut closed_upper, &mut closed_lower),
-    )?;
-    numbers::show_two(
-        rt,
-        numbers::digest(&closed_upper),
-        numbers::digest(&closed_lower),
-    )?;
+    numbers::show_closing(rt, upper, lower, mark, [7; ROOM])?;
     try_monitor(rt, upper, lower, mark)?;
     try_generator(rt, upper, lower, mark)
 }

@@ -1,4 +1,4 @@
-// Numbers: written out, drawn, and boiled down.
+// Numbers: written out, drawn, and boiled down; and those of a closing.
 ghost use Rattle.std.specs.Prelude.{◌≤◌, ◌<◌};
 
 use std::fmt::Display;
@@ -36,4 +36,19 @@ pub(crate) fn digest(numbers: &[u32]) -> u64 {
         sum = (sum * 31 + u64::from(*number)) % 2147483648;
     }
     sum
+}
+
+// What closing a pair answers, and what it leaves of two lists that are lent for the closure, each with these entries.
+pub(crate) fn show_closing<const N: usize>(
+    rt: &impl Print,
+    upper: &[u32],
+    lower: &[u32],
+    mark: u32,
+    lent: [u32; N],
+) -> io::Result<()> {
+    let mut closed_upper = lent;
+    let mut closed_lower = lent;
+    let answer = exports::calgedze_close(upper, lower, mark, &mut closed_upper, &mut closed_lower);
+    show(rt, answer)?;
+    show_two(rt, digest(&closed_upper), digest(&closed_lower))
 }

@@ -47,18 +47,8 @@ fn try_two_windows(rt: &impl Print) -> io::Result<()> {
 
 // What closing the pair answers, and what it leaves of lists of 256 entries.
 fn try_closing(rt: &impl Print, upper: &[u32], lower: &[u32], mark: u32) -> io::Result<()> {
-    let mut closed_upper = [7; MAX_HORIZON];
-    let mut closed_lower = [7; MAX_HORIZON];
     print!(rt; "rounds")?;
     numbers::show(rt, upper.len() as u64)?;
-    numbers::show(
-        rt,
-        exports::calgedze_close(upper, lower, mark, &mut closed_upper, &mut closed_lower),
-    )?;
-    numbers::show_two(
-        rt,
-        numbers::digest(&closed_upper),
-        numbers::digest(&closed_lower),
-    )?;
+    numbers::show_closing(rt, upper, lower, mark, [7; MAX_HORIZON])?;
     print!(rt; "\n")
 }
