@@ -4,6 +4,7 @@ pub mod Given
 pub mod Room
 pub mod Promised
 pub mod Widths
+mod Floats
 mod Rows
 mod Passes
 mod Convolving

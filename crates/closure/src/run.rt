@@ -36,8 +36,8 @@ pub(crate) fn to_end(
         &mut new_upper[..h],
         &mut new_lower[..h],
     )?;
-    closed_upper.copy_from_slice(&held_upper[..h]);
-    closed_lower.copy_from_slice(&held_lower[..h]);
+    lists::copy(&held_upper[..h], closed_upper);
+    lists::copy(&held_lower[..h], closed_lower);
     Some(rounds)
 }
 
@@ -88,8 +88,7 @@ fn next_round(
     ensures { Advanced (pair_of upper.old lower.old) result (pair_of upper.new lower.new) }
 {
     round::compute(upper, lower, new_upper, new_lower);
-    let settled = *new_upper == *upper && *new_lower == *lower;
-    upper.copy_from_slice(new_upper);
-    lower.copy_from_slice(new_lower);
-    settled
+    let uppers_same = lists::copy(new_upper, upper);
+    let lowers_same = lists::copy(new_lower, lower);
+    uppers_same & lowers_same
 }

@@ -1,9 +1,9 @@
 -- Laws over plain variables for the counts that the next tick can have: what a turn of the loop keeps, and what the range answers.
 -- Assumes nothing.
-use Rattle.std.specs.Prelude.{Option, Some, None, Ok}
+use Rattle.std.specs.Prelude.{Option, Some, None, Result, Ok, Err}
 use Rattle.std.specs.Option.{ok_or}
 use Rattle.laws.proofs.Base.{ℕ, suc, ◌+◌, ◌-◌, ◌*◌, ◌≤◌, ◌<◌, min, max, ◌≡◌, refl, sym, ap, ◌∙◌, subst, Bool, true, false, ◌↔◌}
-use Rattle.laws.proofs.Base.{List, le_refl, add-one, arith, length, get_or}
+use Rattle.laws.proofs.Base.{List, ◌++◌, take, drop, le_refl, add-one, arith, length, get_or}
 use Rattle.curves.specs.Streams.{count_limit}
 use Rattle.curves.specs.Pairs.{Pair, figure}
 use Rattle.curves.specs.Unlimited.{with_mark, curves_of}
@@ -14,13 +14,19 @@ use Rattle.curves.proofs.Highest.{highest_at}
 use Rattle.curves.proofs.NextTick.{last_none, last_more, length-then, last_next}
 use Rattle.curves.proofs.Verdicts.{KeptTo, kept_none, kept_more}
 use Rattle.bounds.specs.Bounds.{max_horizon, figure_limit}
-use Rattle.history.specs.States.{View, Legal}
+use Rattle.lists.specs.Pushing.{Pushed}
+use Rattle.history.specs.declared.History.{History}
+use Rattle.history.specs.States.{View, Legal, view_of, history_of}
 use Rattle.history.specs.Steps.{Slices, view_with}
-use Rattle.history.proofs.Slicing.{judged-next}
+use Rattle.history.proofs.Histories.{legal_sizes}
+use Rattle.history.proofs.Slicing.{Arrays, judged-next, added_is}
+use Rattle.generator.specs.declared.Generator.{Generator}
 use Rattle.generator.specs.declared.Admissible.{Admissible}
+use Rattle.generator.specs.declared.SendingRefusal.{SendingRefusal}
 use Rattle.generator.specs.declared.SendingRefusal.TheVariants as refuses
 use Rattle.generator.specs.Generating.{ranging, sending}
-use Rattle.generator.specs.Answers.{range_reply}
+use Rattle.generator.specs.Promises.{GeneratorTicked}
+use Rattle.generator.specs.Answers.{range_reply, sending_reply}
 use Rattle.generator.specs.Steps.{Keeping, Limited, sum_limit, lowered_to, Shows}
 use Rattle.generator.proofs.Said.{range_answer, ranging_none, ranging_range, ranging_from, count_limited}
 use Rattle.generator.proofs.Said.{sendable_iff, sent_from_lem}
@@ -281,3 +287,24 @@ range_sizes v a e =
 pub sent_legal : (v : View) (choice x : ℕ) → result x ≡ sending v choice → Legal v
 sent_legal v choice x e =
     let (b, shown, is) = sent_from_lem v choice x (sym e) in (ranging_from v b shown).0
+
+-- The next state is the one given with other held ticks: with the count behind them, or where none is sent with the same.
+module _ (g : Generator) (choice n : ℕ) (xs : List ℕ) (s : Result ℕ SendingRefusal) (told : sending_reply s ≡ sending (view_of g.history) choice) where
+  abbrev h : History
+  h = g.history
+
+  abbrev next : Generator
+  next = record { history = history_of h.horizon h.upper h.lower h.unlimited n xs }
+
+  pub sent_next : (a : Arrays h) (x m : ℕ) (left : List ℕ) → s ≡ Ok x → Pushed (take (h.horizon - 1) h.ticks) h.held x left m
+      → xs ≡ left ++ drop (h.horizon - 1) h.ticks → n ≡ m → GeneratorTicked g choice (record { sending = s; next = next })
+  sent_next a x m left is p ticks many =
+      let l : Legal (view_of h) = sent_legal (view_of h) choice x (ap sending_reply (sym is) ∙ told) in
+      record { answer = told; next = rw (← told, is, ticks, many) (added_is h a (legal_sizes h l) x left m p) }
+
+  pub kept_next : (e : SendingRefusal) → s ≡ Err e → xs ≡ h.ticks → n ≡ h.held → GeneratorTicked g choice (record { sending = s; next = next })
+  kept_next e is ticks many =
+      record {
+        answer = told;
+        next = rw (← told, is) (λ i. record { history = history_of h.horizon h.upper h.lower h.unlimited (many i) (ticks i) });
+      }

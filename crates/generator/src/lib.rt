@@ -9,7 +9,7 @@ ghost use Rattle.curves.specs.Rounds.{Causal};
 ghost use Rattle.curves.specs.Questions.{AllYes};
 ghost use Rattle.bounds.specs.Bounds.{figure_limit, pair_questions};
 ghost use Rattle.bounds.specs.Answers.{curves_in};
-ghost use Rattle.history.specs.States.{Legal, view_of, added};
+ghost use Rattle.history.specs.States.{view_of, history_of};
 ghost use Rattle.history.specs.Answers.{view_in};
 ghost use Rattle.history.specs.Steps.{Slices};
 ghost use Rattle.generator.specs.declared.SendingRefusal.TheVariants as SendingRefusal;
@@ -134,25 +134,46 @@ impl Generator {
         }
     }
 
-    // Sends the count that the choice leads to. The state that is handed in becomes the next one where it is, as copies cost most of a tick.
-    pub fn tick(mut self, choice: u32) -> Sent
+    // Sends the count that the choice leads to. Each array is taken out of the state once and put into the next one once: what lies between
+    // works on them where they are, as copies cost most of a tick.
+    pub fn tick(self, choice: u32) -> Sent
         ensures { GeneratorTicked self choice result }
     {
-        let sending = choose(&self.history, choice);
-        if let Ok(count) = sending {
-            hold(&mut self.history, count);
-        }
-        Sent {
-            sending,
-            next: self,
-        }
+        let history = self.history;
+        let horizon = history.horizon;
+        let upper = history.upper;
+        let lower = history.lower;
+        let mut ticks = history.ticks;
+        let sending = choose(
+            horizon,
+            &upper,
+            &lower,
+            history.unlimited,
+            history.held,
+            &ticks,
+            choice,
+        );
+        let held = match sending {
+            Ok(count) => lists::push(&mut ticks[..horizon - 1], history.held, count),
+            Err(_) => history.held,
+        };
+        let history = History {
+            horizon,
+            upper,
+            lower,
+            unlimited: history.unlimited,
+            held,
+            ticks,
+        };
+        let next = Generator { history };
+        Sent { sending, next }
     }
 
     // Shows the admissible range: the smallest and the largest count that the next tick can send.
     pub fn range(self) -> Result<Admissible, SendingRefusal>
         ensures { GeneratorRanged self result }
     {
-        find_range(&self.history)
+        limit(self.history.view()?).ok_or(SendingRefusal::NoCount)
     }
 }
 
@@ -185,29 +206,43 @@ fn is_closed(curves: Curves) -> bool
     }
 }
 
-// The count that the choice leads to.
-fn choose(history: &History, choice: u32) -> Result<u32, SendingRefusal>
-    ensures { sending_reply result ≡ sending (view_of history.now) choice }
+// The count that the choice leads to. The parts of a history are loose: one that is lent whole is copied by a caller that goes on with it.
+fn choose(
+    horizon: usize,
+    upper: &[u32; MAX_HORIZON],
+    lower: &[u32; MAX_HORIZON],
+    unlimited: bool,
+    held: usize,
+    ticks: &[u32; MAX_HORIZON],
+    choice: u32,
+) -> Result<u32, SendingRefusal>
+    ensures { sending_reply result
+        ≡ sending (view_of (history_of horizon upper.now lower.now unlimited held ticks.now)) choice }
 {
-    let Admissible { lo, hi } = find_range(history)?;
+    let Admissible { lo, hi } = find_range(horizon, upper, lower, unlimited, held, ticks)?;
     Ok(lo + choice % (hi - lo + 1))
 }
 
-// Puts a count that is sent behind the held ticks, one fewer than the horizon at most.
-fn hold(history: &mut History, count: u32)
-    requires { Legal (view_of history.old) }
-    ensures { view_of history.new ≡ added (view_of history.old) count }
+// Question 12, and then 13: by the figures up to the horizon, and the held ticks.
+fn find_range(
+    horizon: usize,
+    upper: &[u32; MAX_HORIZON],
+    lower: &[u32; MAX_HORIZON],
+    unlimited: bool,
+    held: usize,
+    ticks: &[u32; MAX_HORIZON],
+) -> Result<Admissible, SendingRefusal>
+    ensures { range_reply result
+        ≡ ranging (view_of (history_of horizon upper.now lower.now unlimited held ticks.now)) }
 {
-    let held = history.held;
-    let places = &mut history.ticks[..history.horizon - 1];
-    history.held = lists::push(places, held, count);
-}
-
-// Question 12, and then 13: by what counts of the history.
-fn find_range(history: &History) -> Result<Admissible, SendingRefusal>
-    ensures { range_reply result ≡ ranging (view_of history.now) }
-{
-    limit(history.view()?).ok_or(SendingRefusal::NoCount)
+    history::ask_legality(horizon, upper, lower, unlimited, held)?;
+    let curves = Curves {
+        upper: &upper[..horizon],
+        lower: &lower[..horizon],
+        unlimited,
+    };
+    let ticks = &ticks[..held];
+    limit(View { curves, ticks }).ok_or(SendingRefusal::NoCount)
 }
 
 // The counts of the next tick, if there are any. Two windows a turn: compared with each other first, they make a turn wait for one

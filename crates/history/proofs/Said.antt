@@ -6,7 +6,7 @@ use Rattle.curves.proofs.Asked.{said_no, said_yes, result_from, no_refusal}
 use Rattle.history.specs.declared.BadState.{BadState}
 use Rattle.history.specs.declared.View as declared
 use Rattle.history.specs.States.{View, Legal, legality, viewing}
-use Rattle.history.specs.Answers.{view_in, view_reply}
+use Rattle.history.specs.Answers.{legality_reply, view_in, view_reply}
 
 module _ (v : View) where
   pub legality_yes : Legal v → result tt ≡ legality v
@@ -16,6 +16,16 @@ module _ (v : View) where
   pub legality_no : ¬ Legal v → refusal 12 ≡ legality v
   unfolding legality
   legality_no n = sym (said_no _ _ _ 12 (inl (refl, n)))
+
+  -- What asking it tells: the view is legal, or it is not.
+  abbrev pub Told : Result (Unit {0}) BadState → Type 0
+  Told (Ok u) = Legal v
+  Told (Err e) = ¬ Legal v
+
+  pub told : (r : Result (Unit {0}) BadState) → legality_reply r ≡ legality v → Told r
+  unfolding legality
+  told (Ok u) e = (result_from _ _ u (sym e)).0.0
+  told (Err x) e = λ l. no_refusal tt 12 (legality_yes l ∙ sym e)
 
   pub viewing_yes : Legal v → result v ≡ viewing v
   unfolding viewing

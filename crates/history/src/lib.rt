@@ -9,7 +9,7 @@ ghost use Rattle.bounds.specs.Bounds.{max_horizon, pair_questions};
 ghost use Rattle.history.specs.States.{view_of, legality, viewing};
 ghost use Rattle.history.specs.Opening.{fresh, zero_history};
 ghost use Rattle.history.specs.Answers.{legality_reply, view_reply};
-ghost use Rattle.history.specs.Promises.{HistoryOpened};
+ghost use Rattle.history.specs.Promises.{HistoryOpened, LegalityAsked};
 ghost use Rattle.history.specs.Steps.{padded_to};
 
 use bounds::{Curves, PairRefusal};
@@ -94,8 +94,13 @@ impl History {
     pub fn legality(&self) -> Result<(), BadState>
         ensures { legality_reply result ≡ legality (view_of self.now) }
     {
-        self.view()?;
-        Ok(())
+        ask_legality(
+            self.horizon,
+            &self.upper,
+            &self.lower,
+            self.unlimited,
+            self.held,
+        )
     }
 
     // Question 12, and what counts of the history. The ceilings up to the horizon are there without ceilings too, where they have no effect.
@@ -103,23 +108,41 @@ impl History {
         ensures seen { view_reply result ≡ viewing (view_of self.now) }
         ensures ceilings { IfOk result (λ w. w.curves.upper.now ≡ take self.now.horizon self.now.upper) }
     {
+        self.legality()?;
         let horizon = self.horizon;
-        if MAX_HORIZON < horizon || horizon <= self.held {
-            return Err(BadState);
-        }
-        let curves = Curves {
-            upper: &self.upper[..horizon],
-            lower: &self.lower[..horizon],
-            unlimited: self.unlimited,
-        };
-        if !curves.within(FIGURE_LIMIT) {
-            return Err(BadState);
-        }
         Ok(View {
-            curves,
+            curves: Curves {
+                upper: &self.upper[..horizon],
+                lower: &self.lower[..horizon],
+                unlimited: self.unlimited,
+            },
             ticks: &self.ticks[..self.held],
         })
     }
+}
+
+// Question 12, asked of the numbers and arrays of a history, for those who have these loose. The ticks have no part in it.
+pub fn ask_legality(
+    horizon: usize,
+    upper: &[u32; MAX_HORIZON],
+    lower: &[u32; MAX_HORIZON],
+    unlimited: bool,
+    held: usize,
+) -> Result<(), BadState>
+    ensures { LegalityAsked horizon upper.now lower.now unlimited held result }
+{
+    if MAX_HORIZON < horizon || horizon <= held {
+        return Err(BadState);
+    }
+    let curves = Curves {
+        upper: &upper[..horizon],
+        lower: &lower[..horizon],
+        unlimited,
+    };
+    if !curves.within(FIGURE_LIMIT) {
+        return Err(BadState);
+    }
+    Ok(())
 }
 
 // The history of a stream that has not begun.

@@ -7,6 +7,7 @@ use Rattle.curves.specs.Streams.{count_limit}
 use Rattle.curves.specs.Pairs.{Pair, pair_of, first, horizon, FiguresWithin}
 use Rattle.curves.specs.Unlimited.{AnyPair, limited, unlimited, with_mark, curves_of, sums_after}
 use Rattle.curves.specs.Questions.{AllYes, FirstNo, result, refusal}
+use Rattle.curves.proofs.Asked.{no_refusal}
 use Rattle.curves.specs.Theorems.{Closes, leasts_only}
 use Rattle.curves.proofs.Highest.{length-highest}
 use Rattle.curves.proofs.Parts.{sums_arrive_within_logarithm}
@@ -88,6 +89,15 @@ module _ (c : Pair) where
       (λ (ok, (n, q, s)). absurd (omega (arith, numbered e, ap (λ r. r.number) (a ∙ closed_is (limited c) room n q ok s))))
       (cases (limited c) room)
 
+  -- And where the opening is refused, closing leaves them so.
+  refused_left : (n : ℕ) → refusal n ≡ monitor_opening (limited c) → first (horizon c) room ≡ curves_of (closure_of (limited c) room)
+  refused_left n e =
+      ⊎_elim
+      (λ (m, f). ap (λ (a : ClosingAnswer). curves_of (with_mark (take (horizon c) a.results.upper) (take (horizon c) a.results.lower) a.unlimited))
+      (sym (refused_is (limited c) room m f)))
+      (λ (ok, closes). absurd (no_refusal tt n (opening_yes (limited c) (ok.0, (ok.1.0, (ok.1.1.1.0, tt))) closes ∙ sym e)))
+      (cases (limited c) room)
+
 -- ---- of an unlimited one
 -- Question 5 is always answered yes.
 pub leasts_close : (h : ℕ) (ls : List ℕ) → AllYes (pair_questions (unlimited h ls)) → Closes (curves_of (unlimited h ls))
@@ -141,25 +151,32 @@ module _ (us ls : List ℕ) where
       subst (From_closing false left) is (in_room left k (e ∙ ap (closing (with_mark us ls false)) z))
 
 -- ---- the state
+-- What is left in the lists, up to the horizon, is what closing leaves in lists of zeros.
+closure_left : (p : AnyPair) (left : Pair) (r : Result (Unit {0}) MonitorRefusal) → OpeningAsked p left r
+    → closed_in p (first (horizon (curves_of p)) left) ≡ closed_in p (curves_of (closure_of p room))
+closure_left p left (Ok u) asked = asked.closed
+closure_left (limited c) left (Err e) asked = ap (first (horizon c)) asked.closed ∙ refused_left c _ asked.answer
+closure_left (unlimited h ls) left (Err e) asked = refl
+
 module _ (p : AnyPair) (h : History) (us ls : List ℕ) where
   abbrev state : Monitor
   state = monitor_of h us ls false
 
-  -- The closed figures that count, up to the horizon, are the closure.
-  fresh_is : length us ≡ max_horizon → length ls ≡ max_horizon → OpeningAsked p (pair_of us ls) (Ok tt)
+  -- The closed figures that count, up to the horizon, are the closure, whatever the answer.
+  fresh_is : length us ≡ max_horizon → length ls ≡ max_horizon → (r : Result (Unit {0}) MonitorRefusal) → OpeningAsked p (pair_of us ls) r
       → horizon (curves_of p) ≤ max_horizon → view_of h ≡ fresh p → monitor_view_of state ≡ fresh_monitor p
-  fresh_is wide wide' asked short v =
+  fresh_is wide wide' r asked short v =
       let is : h.horizon ≡ horizon (curves_of p) = sym (horizon_seen h) ∙ ap (λ (w : View). horizon (curves_of w.pair)) v in
       let all : (xs : List ℕ) → length xs ≡ max_horizon → entries h.horizon xs ≡ take (horizon (curves_of p)) xs =
       λ xs l. entries-take h.horizon xs (omega arith) ∙ ap (λ n. take n xs) is in
       (λ i. monitor_view (v i) (closed_in (v i).pair (pair_of (all us wide i) (all ls wide' i))) false)
-      ∙ ap (λ q. monitor_view (fresh p) q false) asked.closed
+      ∙ ap (λ q. monitor_view (fresh p) q false) (closure_left p (pair_of us ls) r asked)
 
   pub opened_state : length us ≡ max_horizon → length ls ≡ max_horizon → OpeningAsked p (pair_of us ls) (Ok tt)
       → Begun (opening p) p h → MonitorBegun (monitor_opening p) p state
   opened_state wide wide' asked b =
       let ys : AllYes (pair_questions p) = opened_yes p (sym asked.answer) in
-      rw (← asked.answer) (fresh_is wide wide' asked ys.0.1 (subst (λ r. Begun r p h) (sym (asking_yes p ys)) b))
+      rw (← asked.answer) (fresh_is wide wide' (Ok tt) asked ys.0.1 (subst (λ r. Begun r p h) (sym (asking_yes p ys)) b))
 
   zero_is : h ≡ zero_history → pair_of us ls ≡ room → state ≡ zero_monitor
   unfolding zero_monitor

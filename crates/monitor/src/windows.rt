@@ -117,16 +117,16 @@ fn by_closed(given: Finding, upper: &[u32], lower: &[u32], ticks: &[u32], count:
     requires fits { given.verdict ≡ Ok Passed → Fits ticks.now count }
     ensures { ClosedOf given (pair_of upper.now lower.now) (then ticks.now count) result }
 {
-    let curves = Curves {
+    let closed = Curves {
         upper,
         lower,
         unlimited: false,
     };
-    if !curves.within(FIGURE_LIMIT) {
+    if !closed.within(FIGURE_LIMIT) {
         return unjudged(Err(BadState));
     }
     match given.verdict {
-        Ok(Verdict::Passed) if !keeps(curves, ticks, count) => Finding {
+        Ok(Verdict::Passed) if !keeps(closed, ticks, count) => Finding {
             verdict: Ok(Verdict::Lost),
             ..given
         },
@@ -157,20 +157,21 @@ fn judge(view: View, count: u32) -> Verdict
     }
 }
 
-// What is said of the window of d + 1 ticks, which have this sum, where it is outside its figures. Where these cross it may be outside both
-// ways: 'too many' is looked at first, where there are ceilings.
+// What is said of the window of d + 1 ticks, which have this sum, where it is outside its figures: its margin tells whether it is. Where
+// these cross it may be outside both ways: 'too many' is looked at first, where there are ceilings.
 fn outside(curves: Curves, d: usize, sum: u64) -> Option<Verdict>
-    requires { (d < length curves.upper.now) × (length curves.lower.now ≡ length curves.upper.now) }
+    requires place { (d < length curves.upper.now) × (length curves.lower.now ≡ length curves.upper.now) }
+    requires small { sum ≤ window_limit }
     ensures { result ≡ outside_with curves.entry.unlimited (slice_index curves.entry.upper.now d)
         (slice_index curves.entry.lower.now d) sum (d + 1) }
 {
+    if 0 <= margin_at(curves, d, sum).value {
+        return None;
+    }
     if !curves.unlimited & ((curves.upper[d] as u64) < sum) {
         return Some(Verdict::TooMany { window: d + 1 });
     }
-    if sum < curves.lower[d] as u64 {
-        return Some(Verdict::TooFew { window: d + 1 });
-    }
-    None
+    Some(Verdict::TooFew { window: d + 1 })
 }
 
 // The smallest margin over the same windows, two of them a turn. A later one takes its place only where it is smaller, so the window is the

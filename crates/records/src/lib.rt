@@ -80,11 +80,11 @@ fn part_before<F: Fn(&[u8]) -> bool>(text: &[u8], ends: F) -> &[u8]
     text
 }
 
-// Whether a text begins with CR LF.
+// Whether a text begins with CR LF. Byte after byte: at most places the first one tells, where both at once would be put together first.
 fn ends_line(text: &[u8]) -> bool
     ensures { Tells result (LineEnd text.now) }
 {
-    text.starts_with(b"\r\n")
+    text.starts_with(b"\r") && text[1..].starts_with(b"\n")
 }
 
 // Whether it begins with a comma or CR LF.

@@ -2,7 +2,7 @@
 -- Assumes nothing.
 use Rattle.std.specs.Prelude.{Option}
 use Rattle.std.specs.Bool.{then_some}
-use Rattle.laws.proofs.Base.{ℕ, zero, suc, ◌+◌, ◌-◌, ◌*◌, ◌≤◌, ◌<◌, ◌≡◌, refl, sym, ap, ◌∙◌, Bool, true, false, List, ◌++◌, dec_le}
+use Rattle.laws.proofs.Base.{ℕ, zero, suc, ◌+◌, ◌-◌, ◌*◌, ◌%◌, ◌≤◌, ◌<◌, ◌≡◌, refl, sym, ap, ◌∙◌, Bool, true, false, List, [], ◌∷◌, ◌++◌, dec_le}
 use Rattle.laws.proofs.Base.{append_assoc, add-one, arith, length, get_or, take, drop, length-append}
 use Prim.Native.Nat.{◌/◌}
 use mathlib.Core.Bool.{not}
@@ -20,14 +20,37 @@ use Rattle.bounds.specs.Answers.{curves_in}
 use Rattle.csv_text.specs.Text.{header, crlf, Bytes}
 use Rattle.csv_text.specs.Numbers.{decimal}
 use Rattle.csv_text.specs.Records.{Most, none, up_to, most_in, MostWithin}
-use Rattle.csv_text.proofs.Numbers.{decimal_step, decimal_few}
+use Rattle.csv_text.proofs.Numbers.{decimal_small, decimal_step, decimal_few}
 use Rattle.rendering.specs.Rendering.{most_field, line, most_at, text_of, longest}
 use Rattle.rendering.specs.Steps.{line_length}
 
--- ---- numbers
--- The tenth has one digit fewer.
+-- ---- numbers, by two digits
+-- Two are left behind those of the hundredth, or are all.
+abbrev pub last_two : ℕ → Bytes
+last_two n = (48 + n / 10 % 10) ∷ (48 + n % 10) ∷ []
+
+pub decimal_two : (n : ℕ) → 10 ≤ n → n < 100 → decimal n ≡ last_two n
+decimal_two n h l =
+    let one : n / 10 < 10 = omega arith in
+    let same : n / 10 % 10 ≡ n / 10 = omega arith in
+    rw (decimal_step n h, decimal_small (n / 10) one, same) refl
+
+pub decimal_more : (n : ℕ) → 100 ≤ n → decimal n ≡ decimal (n / 100) ++ last_two n
+decimal_more n h =
+    let tenth : 10 ≤ n / 10 = omega arith in
+    let same : n / 10 / 10 ≡ n / 100 = omega arith in
+    rw (decimal_step n (omega arith), decimal_step (n / 10) tenth, same)
+    (append_assoc (decimal (n / 100)) ((48 + n / 10 % 10) ∷ []) ((48 + n % 10) ∷ []))
+
+-- The tenth has one digit fewer, and the hundredth two.
 pub tenth_shorter : (n : ℕ) → 10 ≤ n → length (decimal n) ≡ length (decimal (n / 10)) + 1
 tenth_shorter n h = ap length (decimal_step n h) ∙ length-append (decimal (n / 10)) _
+
+pub hundredth_shorter : (n : ℕ) → 100 ≤ n → length (decimal n) ≡ length (decimal (n / 100)) + 2
+hundredth_shorter n h =
+    let tenth : 10 ≤ n / 10 = omega arith in
+    let same : n / 10 / 10 ≡ n / 100 = omega arith in
+    omega (arith, tenth_shorter n (omega arith), tenth_shorter (n / 10) tenth, ap (λ k. length (decimal k)) same)
 
 -- The digits of a window d of at most 256 ticks: one, and one more from 10 on, and from 100 on.
 window_digits : (d : ℕ) → d ≤ 256 → length (decimal d) + (d - 10) + (d - 100) ≤ 1 + (d - 9) + (d - 99)

@@ -51,18 +51,22 @@ impl Text {
         if let Some(most) = most {
             self.push_number(most);
         }
-        self.push_bytes(b"\r\n");
+        self.push_two(b'\r', b'\n');
     }
 
-    // A number in decimal digits: those of its tenth first.
+    // A number in decimal digits, by two: those of its hundredth first. Each time the text's length waits for what was stored before it.
     pub(crate) fn push_number(&mut self, n: u32)
         requires { self.old.length + length (decimal n) ≤ longest }
         ensures { Pushed self.old (decimal n) self.new }
     {
-        if 10 <= n {
-            self.push_number(n / 10);
+        if n < 10 {
+            self.push(b'0' + n as u8);
+            return;
         }
-        self.push(b'0' + (n % 10) as u8);
+        if 100 <= n {
+            self.push_number(n / 100);
+        }
+        self.push_two(b'0' + (n / 10 % 10) as u8, b'0' + (n % 10) as u8);
     }
 
     // Bytes as they are.
@@ -82,5 +86,15 @@ impl Text {
     {
         self.bytes[self.length] = byte;
         self.length += 1;
+    }
+
+    // Two bytes.
+    fn push_two(&mut self, first: u8, second: u8)
+        requires { self.old.length + 2 ≤ longest }
+        ensures { Pushed self.old (first ∷ second ∷ []) self.new }
+    {
+        self.bytes[self.length] = first;
+        self.bytes[self.length + 1] = second;
+        self.length += 2;
     }
 }

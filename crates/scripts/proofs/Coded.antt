@@ -1,17 +1,34 @@
--- Verdicts as numbers fit: a window that one names is no longer than the longest horizon.
+-- Answers as numbers: no opening is refused with 0; and verdicts fit: a window that one names is no longer than the longest horizon.
 -- Assumes nothing.
-use Rattle.laws.proofs.Base.{ℕ, ◌≡◌, refl, sym, Bool, true, false, ◌≤◌, arith}
+use Rattle.laws.proofs.Base.{ℕ, ◌≡◌, refl, sym, Bool, true, false, List, ◌≤◌, arith}
 use Rattle.curves.specs.Ticks.{then, Judged, Verdict, too_many, too_few, Right}
-use Rattle.curves.specs.Unlimited.{curves_of}
-use Rattle.curves.specs.Questions.{result}
+use Rattle.curves.specs.Unlimited.{AnyPair, curves_of}
+use Rattle.curves.specs.Questions.{Question, AllYes, result, refusal, reply_to}
+use Rattle.curves.proofs.Asked.{Positive, positive, refusal_iff}
 use Rattle.bounds.specs.Bounds.{max_horizon}
 use Rattle.monitor.specs.declared.Verdict as declared
 use Rattle.monitor.specs.declared.Verdict.TheVariants.{Passed, TooMany, TooFew, Lost, AlreadyFailed}
 use Rattle.monitor.specs.Monitoring.{MonitorView, judged, judging}
+use Rattle.monitor.specs.Opening.{monitor_questions, monitor_opening}
 use Rattle.monitor.specs.Answers.{ruling_of}
 use Rattle.monitor.proofs.Said.{judging_legal, judging_failed, ruling_right}
+use Rattle.generator.specs.Opening.{generator_questions, generator_opening}
 use Rattle.scripts.specs.Steps.{NamesWindow}
 
+-- ---- opening
+-- No refusal has the number 0, as no question has.
+numbered : (qs : List Question) (y : AllYes qs → Unit {0}) → Positive qs → ¬ (reply_to qs y ≡ refusal 0)
+numbered qs y h e = omega (arith, positive qs h 0 ((refusal_iff qs y 0).0 e))
+
+pub generator_opening_numbered : (p : AnyPair) → ¬ (generator_opening p ≡ refusal 0)
+unfolding generator_opening
+generator_opening_numbered p = numbered (generator_questions p) _ (omega arith, (omega arith, (omega arith, (omega arith, tt))))
+
+pub monitor_opening_numbered : (p : AnyPair) → ¬ (monitor_opening p ≡ refusal 0)
+unfolding monitor_opening
+monitor_opening_numbered p = numbered (monitor_questions p) _ (omega arith, (omega arith, (omega arith, (omega arith, tt))))
+
+-- ---- verdicts
 -- A verdict that was found is that of a legal state that had not failed, and it is right: a window that it judges is within the horizon.
 judged_within : (w : MonitorView) (x : ℕ) (u : Verdict) (d : ℕ)
     → (Right (curves_of w.view.pair) (then w.view.held x) u → Judged (curves_of w.view.pair) (then w.view.held x) d)

@@ -87,7 +87,10 @@ fn closed_legality(words: &[u32]) -> Result<(), BadState>
     ensures { MatchResult result (λ _. ClosedWords words.now) (λ _. ¬ ClosedWords words.now) }
 {
     let closed = closed(words);
-    if !closed.unlimited && !closed.within(FIGURE_LIMIT) {
+    if closed.unlimited {
+        return Ok(());
+    }
+    if !(bounds::within_limit(closed.upper) & bounds::within_limit(closed.lower)) {
         return Err(BadState);
     }
     Ok(())

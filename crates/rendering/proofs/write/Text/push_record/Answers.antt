@@ -12,6 +12,6 @@ returns c =
     let four = wrote_more (wrote_more two c.push_number-2.ensures) c.push-2.ensures in
     elim c.match-most.branch [
       | in-Some w ↦
-          rw w.in-Some.is (wrote_more (wrote_more four w.push_number-in-Some.ensures) (rw w.self-is at c.push_bytes.ensures))
-      | in_default w ↦ rw (w.in_default.is, append-nil) (wrote_more four (rw w.self-is at c.push_bytes.ensures))
+          rw w.in-Some.is (wrote_more (wrote_more four w.push_number-in-Some.ensures) (rw w.self-is at c.push_two.ensures))
+      | in_default w ↦ rw (w.in_default.is, append-nil) (wrote_more four (rw w.self-is at c.push_two.ensures))
     ]
