@@ -1,4 +1,5 @@
--- Numbers whose bits are those of normal floats are in the order of these floats. Assumes nothing.
+-- Numbers whose bits are those of normal floats are in the order of these floats. No proof needs it since closing compares integers; it stands
+-- for a machine that has no such comparison. Assumes nothing.
 use Rattle.laws.proofs.Base.{ℕ, suc, ◌+◌, ◌-◌, ◌*◌, ◌^◌, ◌%◌, ◌≤◌, ◌<◌, min, ◌≡◌, refl, sym, ap, ◌∙◌, subst, Bool, true, false, cond}
 use Rattle.laws.proofs.Base.{dec_lt, arith, mod-lt, ne_eqb}
 use Prim.Native.Nat.{◌/◌}

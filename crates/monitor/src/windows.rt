@@ -157,8 +157,8 @@ fn judge(view: View, count: u32) -> Verdict
     }
 }
 
-// What is said of the window of d + 1 ticks, which have this sum, where it is outside its figures: its margin tells whether it is. Where
-// these cross it may be outside both ways: 'too many' is looked at first, where there are ceilings.
+// What is said of the window of d + 1 ticks, which have this sum, where it is outside its figures, as its margin tells. Where the figures
+// cross it may be outside both ways: 'too many' is looked at first, where there are ceilings.
 fn outside(curves: Curves, d: usize, sum: u64) -> Option<Verdict>
     requires place { (d < length curves.upper.now) × (length curves.lower.now ≡ length curves.upper.now) }
     requires small { sum ≤ window_limit }

@@ -80,7 +80,7 @@ fn part_before<F: Fn(&[u8]) -> bool>(text: &[u8], ends: F) -> &[u8]
     text
 }
 
-// Whether a text begins with CR LF. Byte after byte: at most places the first one tells, where both at once would be put together first.
+// Whether a text begins with CR LF. Byte by byte: at most places the first one tells; a test of both at once first joins them to one.
 fn ends_line(text: &[u8]) -> bool
     ensures { Tells result (LineEnd text.now) }
 {

@@ -43,18 +43,6 @@ module _ (ws : List ℕ) where
         fewer = omega (arith, horizon_seen (history_from ws), held_seen (history_from ws));
       }
 
--- What it asks of the closed figures, by the mark and the figures that are handed out.
-module _ (ws cus cls : List ℕ) (b : Bool) (mark : b ≡ mark_from (word 1 ws)) (u : cus ≡ entries (word 0 ws) (part 771 256 ws))
-    (l : cls ≡ entries (word 0 ws) (part 1_027 256 ws)) where
-  pub none_asked : b ≡ true → ClosedWords ws
-  none_asked e = rw (← mark, e) tt
-
-  pub closed_within : b ≡ false → AllWithin figure_limit (with_mark cus cls b) → ClosedWords ws
-  closed_within e a = rw (← mark, e, ← u, ← l) (rw e at a)
-
-  pub within_closed : b ≡ false → ClosedWords ws → AllWithin figure_limit (with_mark cus cls b)
-  within_closed e a = rw e (rw (← mark, e, ← u, ← l) at a)
-
 -- Of a monitor, question 12 asks no more of an unlimited state than of its history.
 module _ (us ls : List ℕ) (h : ℕ) (cus cls : List ℕ) where
   abbrev Asked : Bool → Type 0

@@ -16,7 +16,7 @@ use Rattle.generator.specs.Opening.{generator_questions, generator_opening}
 use Rattle.scripts.specs.Steps.{NamesWindow}
 
 -- ---- opening
--- No refusal has the number 0, as no question has.
+-- No refusal has the number 0, as no question has: so 0 says at the boundary that the state is open. No proof needs it; it is claimed.
 numbered : (qs : List Question) (y : AllYes qs → Unit {0}) → Positive qs → ¬ (reply_to qs y ≡ refusal 0)
 numbered qs y h e = omega (arith, positive qs h 0 ((refusal_iff qs y 0).0 e))
 

@@ -7,15 +7,15 @@ use Rattle.generator.proofs.Generator.tick.Goals as goal
 
 pub slice_bounds-ticks-count : goal.slice_bounds-ticks-count
 slice_bounds-ticks-count c =
-    let z : Sizes c.args.self.history = legal_sizes _ (sent_legal _ c.args.choice c.in-Ok.count c.in-Ok.ensures) in omega (arith, z.fewer)
+    let z : Sizes c.args.self.history = legal_sizes _ (sent_legal _ _ c.in-Ok.count c.in-Ok.ensures) in omega (arith, z.fewer)
 
 pub slice_bounds-ticks-end : goal.slice_bounds-ticks-end
 slice_bounds-ticks-end c =
-    let z : Sizes c.args.self.history = legal_sizes _ (sent_legal _ c.args.choice c.in-Ok.count c.in-Ok.ensures) in omega (arith, z.within)
+    let z : Sizes c.args.self.history = legal_sizes _ (sent_legal _ _ c.in-Ok.count c.in-Ok.ensures) in omega (arith, z.within)
 
 pub slice_bounds-push-length : goal.slice_bounds-push-length
 slice_bounds-push-length c =
-    let z : Sizes c.args.self.history = legal_sizes _ (sent_legal _ c.args.choice c.in-Ok.count c.in-Ok.ensures) in search rules
+    let z : Sizes c.args.self.history = legal_sizes _ (sent_legal _ _ c.in-Ok.count c.in-Ok.ensures) in search rules
 
 pub returns-in-Ok : goal.returns-in-Ok
 returns-in-Ok c =

@@ -1,4 +1,4 @@
-use Rattle.std.proofs.Common.{◌+◌, ◌-◌, length, get_or}
+use Rattle.std.proofs.Common.{◌-◌, length, get_or}
 use Rattle.scripts.specs.Steps.{Narrowed}
 use Rattle.scripts.proofs.sending.narrow.Given as goal
 

@@ -1,4 +1,4 @@
-use Rattle.std.proofs.Common.{length, arith, ◌∙◌}
+use Rattle.std.proofs.Common.{arith, ◌∙◌}
 use Rattle.laws.proofs.Base.{take_all}
 use Rattle.scripts.proofs.words.array_of.Goals as goal
 
