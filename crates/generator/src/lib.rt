@@ -223,7 +223,9 @@ fn choose(
     Ok(lo + choice % (hi - lo + 1))
 }
 
-// Question 12, and then 13: by the figures up to the horizon, and the held ticks.
+// Question 12, and then 13: by the figures up to the horizon, and the held ticks. It is not joined with its caller, so that a tick is, with
+// whoever goes on with the next state: that state is not copied once more then.
+#[inline(never)]
 fn find_range(
     horizon: usize,
     upper: &[u32; MAX_HORIZON],
@@ -246,8 +248,10 @@ fn find_range(
 }
 
 // The counts of the next tick, if there are any. Two windows a turn: compared with each other first, they make a turn wait for one
-// comparison of the turn before. `rest` is what the sum of the ticks of the turns leaves of the limit of sums; with it added a figure stands
-// for what that sum leaves of it.
+// comparison of the turn before. `rest` is what the sum of the ticks of the turns leaves of the limit of sums; with it added a figure
+// stands for what that sum leaves of it. It is joined with either caller, so that no reference to a state's arrays leaves that: they would
+// be copied.
+#[inline(always)]
 fn limit(view: View) -> Option<Admissible>
     requires { Slices view.curves.upper.now view.curves.lower.now view.ticks.now }
     ensures { Limited (view_in view.entry) result }
